@@ -1,0 +1,3 @@
+// Facilities: what can schedule a set of jobs.
+pub mod facility;
+pub mod standing;

@@ -1,0 +1,4 @@
+pub mod Answers
+pub mod Bits
+pub mod Lists
+pub mod Members

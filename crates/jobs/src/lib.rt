@@ -1,0 +1,3 @@
+// Jobs, sets of jobs, and the refusals of every call.
+pub mod refusal;
+pub mod set;
