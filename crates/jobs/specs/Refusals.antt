@@ -1,5 +1,6 @@
 -- What a refused call answers: each refusal's number and words, and the shape of an answer that may be refused.
 use mathlib.Core.Path.{_≡_}
+use mathlib.Core.Bool.{Bool, true, false}
 use mathlib.Core.List.{List}
 use Prim.Native.Nat.{ℕ}
 use lib.Chars.{codes}
@@ -34,6 +35,11 @@ wording AmountTooLarge = codes "the amount is above 1000000"
 wording RoundsUsedUp = codes "all 65535 rounds are used up"
 wording NotPending = codes "no such proposal is pending"
 wording BufferTooShort = codes "the buffer is too short for a sheet"
+
+-- Refused with e unless the test holds; then as the checks that follow say.
+abbrev pub unless : Bool → Refusal → Option Refusal → Option Refusal
+unless true e rest = rest
+unless false e rest = Some e
 
 -- The answer of a call that is refused as the first argument says, if it says anything.
 -- Else the answer is a value as described.

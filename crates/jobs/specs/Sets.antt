@@ -1,16 +1,17 @@
 -- A set of jobs as a number: job i is in it where bit i, worth 2 ^ i, is 1.
 -- Everything here is over numbers of any width; `width` alone says how many jobs there are.
 use mathlib.Core.Path.{_≡_}
-use mathlib.Core.Bool.{Bool, true, false, cond}
+use mathlib.Core.Bool.{Bool, true, false}
 use mathlib.Core.List.{List, [], _∷_, _++_}
 use Prim.Native.Nat.{ℕ, zero, suc, _+_, _-_, _*_, _/_, _%_, _^_, _<_, _≤_}
 use lib.Bits.{bitOr}
 use lib.Dec.{eqb, ltb}
 use Rattle.std.specs.declared.option.Option.{Option}
-use Rattle.std.specs.declared.option.Option.the-variants.{Some, None}
+use Rattle.std.specs.declared.option.Option.the-variants.{None}
 use Rattle.jobs.specs.declared.refusal.Refusal.{Refusal}
 use Rattle.jobs.specs.declared.refusal.Refusal.the-variants.{NoSuchJob}
 use Rattle.jobs.specs.declared.set.JobSet.{JobSet}
+use Rattle.jobs.specs.Refusals.{unless}
 
 -- how many jobs there are: their numbers are 0 to width - 1
 abbrev pub width : ℕ
@@ -71,4 +72,4 @@ pub record Lowest (n set i : ℕ) : Type 0 where
 
 -- a number that is no job's is refused
 abbrev pub job-refusal : ℕ → Option Refusal
-job-refusal job = cond (ltb job width) None (Some NoSuchJob)
+job-refusal job = unless (ltb job width) NoSuchJob None
