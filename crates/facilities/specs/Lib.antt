@@ -1,1 +1,14 @@
+pub mod Benches
+pub mod Choices
+pub mod Draws
+pub mod Levels
+pub mod Lines
+pub mod Orders
+pub mod Rows
+pub mod Searches
+pub mod Shrinking
 pub mod Standings
+pub mod Stands
+pub mod Timetables
+pub mod Trials
+pub mod Usages
