@@ -1,0 +1,12 @@
+pub mod Allowances
+pub mod Lones
+pub mod Memos
+pub mod Pairs
+pub mod Piles
+pub mod Remembered
+pub mod Replies
+pub mod Runs
+pub mod Stances
+pub mod Tallies
+pub mod Verdicts
+pub mod Workshops
