@@ -1,0 +1,10 @@
+pub mod Carrying
+pub mod Groups
+pub mod Judged
+pub mod Keeping
+pub mod Logged
+pub mod Placing
+pub mod RunLaw
+pub mod Says
+pub mod Stepping
+pub mod Upright

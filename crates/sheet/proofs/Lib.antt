@@ -1,0 +1,4 @@
+pub mod Apart
+pub mod Lining
+pub mod Numbers
+pub mod Putting
