@@ -23,7 +23,7 @@ use workshops::reply::Reply;
 use workshops::workshop::Workshop;
 
 // How many places there are at most. Their numbers are 0 to PLACES - 1.
-pub const PLACES: u8 = 8;
+pub(crate) const PLACES: u8 = master::PLACES as u8;
 
 // Hands the table a cut of a place that it can have.
 fn hand(cuts: &mut CutTable, place: u8, set: JobSet) -> Addition

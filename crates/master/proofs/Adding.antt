@@ -19,7 +19,7 @@ use Rattle.master.specs.Cuts.Clash.{first, later}
 use Rattle.master.specs.Cuts.Misplaced.{astray, onward}
 use Rattle.master.specs.declared.cut.Cut.{Cut}
 use Rattle.master.specs.declared.cut.Addition.the-variants.{Full, Put}
-use Rattle.master.specs.Refused.{most-places, unless, cut-refusal}
+use Rattle.master.specs.Refused.{most-places, refused-unless, cut-refusal}
 use Rattle.jobs.specs.Refusals.{Answered}
 use Rattle.jobs.specs.declared.refusal.Refusal.the-variants.{NoSuchPlace}
 use Rattle.std.specs.declared.result.Result.the-variants.{Ok}
@@ -184,7 +184,7 @@ sifts-at c cuts i {left} {left′} {len} {len′} p q h = subst (λ (l : List Cu
 
 -- of a place that there can be
 pub cut-accepted : {T : Type 0} (place : ℕ) (v : T) (P : T → Type 0) → place < most-places → P v → Answered (cut-refusal place) (Ok v) P
-cut-accepted place v P l p = subst (λ (b : Bool). Answered (unless b NoSuchPlace) (Ok v) P) (sym (lt-ltb place most-places l)) p
+cut-accepted place v P l p = subst (λ (b : Bool). Answered (refused-unless b NoSuchPlace) (Ok v) P) (sym (lt-ltb place most-places l)) p
 
 -- a row that breaks a cut breaks all that lie within it
 breaks-within : (row : List ℕ) (c d : Cut) → Within c d → Breaks row d → Breaks row c

@@ -15,7 +15,7 @@ use Rattle.std.specs.declared.result.Result.the-variants.{Ok}
 use lib.Dec.{leb}
 use Rattle.jobs.specs.Refusals.{Answered}
 use Rattle.jobs.specs.declared.refusal.Refusal.the-variants.{JobsOutOfRange}
-use Rattle.master.specs.Refused.{unless, jobs-refusal}
+use Rattle.master.specs.Refused.{refused-unless, jobs-refusal}
 use Rattle.jobs.specs.Sets.{Has, width}
 use Rattle.jobs.specs.Words.{Same, Exactly}
 use Rattle.std.specs.Orderings.{Decides}
@@ -125,4 +125,4 @@ filled-more places row w i l m h =
 -- a number of jobs that there can be
 pub jobs-accepted : {T : Type 0} (n : ℕ) (v : T) (P : T → Type 0) → 1 ≤ n → n ≤ width → P v → Answered (jobs-refusal n) (Ok v) P
 jobs-accepted n v P l m p =
-    subst (λ (b : Bool). Answered (unless b JobsOutOfRange) (Ok v) P) (sym (and-from (leb 1 n) (leb n width) (le-leb 1 n l) (le-leb n width m))) p
+    subst (λ (b : Bool). Answered (refused-unless b JobsOutOfRange) (Ok v) P) (sym (and-from (leb 1 n) (leb n width) (le-leb 1 n l) (le-leb n width m))) p

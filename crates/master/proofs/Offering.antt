@@ -18,7 +18,7 @@ use Rattle.std.specs.shelf.Maps.{nth}
 use Rattle.jobs.specs.Refusals.{Answered}
 use Rattle.jobs.specs.declared.refusal.Refusal.{Refusal}
 use Rattle.jobs.specs.declared.refusal.Refusal.the-variants.{NoSuchJob, NoSuchPlace, AmountTooLarge}
-use Rattle.master.specs.Refused.{top-price, unless, or-else, pair-refusal, price-refusal}
+use Rattle.master.specs.Refused.{top-price, refused-unless, or-else, pair-refusal, price-refusal}
 use Rattle.master.specs.Tariffs.{from-offer, replaced}
 use Rattle.master.specs.declared.offer.Offer.{Offer}
 
@@ -94,7 +94,7 @@ low-set (x ∷ xs) (suc i) y b l h zero = h 0
 low-set (x ∷ xs) (suc i) y b l h (suc k) = low-set xs i y b l (λ n. h (suc n)) k
 
 -- where nothing is refused, no check failed
-unless-fine : (b : Bool) (e : Refusal) → None ≡ unless b e → b ≡ true
+unless-fine : (b : Bool) (e : Refusal) → None ≡ refused-unless b e → b ≡ true
 unless-fine true e h = refl
 unless-fine false e h = let z : _≡_ {A = ℕ} 0 1 = cc in absurd (omega arith)
 
@@ -104,8 +104,8 @@ or-else-fine None b h = (refl, h)
 
 pub pair-fine : (n m j p : ℕ) → None ≡ pair-refusal n m j p → (j < n) × (p < m)
 pair-fine n m j p h =
-    let both = or-else-fine (unless (ltb j n) NoSuchJob) (unless (ltb p m) NoSuchPlace) h in
+    let both = or-else-fine (refused-unless (ltb j n) NoSuchJob) (refused-unless (ltb p m) NoSuchPlace) h in
     (ltb-true j n (unless-fine (ltb j n) NoSuchJob (both .0)), ltb-true p m (unless-fine (ltb p m) NoSuchPlace (both .1)))
 
 pub price-fine : (n m j p a : ℕ) → None ≡ price-refusal n m j p a → (j < n) × (p < m)
-price-fine n m j p a h = pair-fine n m j p (or-else-fine (pair-refusal n m j p) (unless (leb a top-price) AmountTooLarge) h .0)
+price-fine n m j p a h = pair-fine n m j p (or-else-fine (pair-refusal n m j p) (refused-unless (leb a top-price) AmountTooLarge) h .0)

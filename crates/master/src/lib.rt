@@ -10,3 +10,5 @@ mod sets;
 pub mod table;
 pub mod tariff;
 mod walk;
+
+pub use offer::PLACES;

@@ -22,7 +22,7 @@ use Rattle.master.specs.declared.tariff.Tariff.{Tariff}
 use Rattle.master.specs.declared.cut.Cut.{Cut}
 use Rattle.judging.specs.Judging.{Ends}
 use Rattle.judging.specs.declared.outcome.Outcome.{Outcome}
-use Rattle.planner.specs.Views.{offer}
+use Rattle.planner.specs.Views.{offer, proposal-of}
 use Rattle.planner.specs.Calls.{Call, Price, Bar, Grant, Propose, Judge, Answer, Refused, Done, Proposed, Nothing}
 use Rattle.planner.specs.States.{State, with-price, with-bar, with-workshop, with-pending, judged, fresh}
 use Rattle.planner.specs.Steps.{last-round, end-of, Step, refused, accepted, Refuses, Accepts}
@@ -125,26 +125,18 @@ module _ {W J : Type 0} (m : Meaning W) (joins : J → ℕ → ℕ → ℕ) (s :
       (subst (λ (x : ℕ → ℕ → Bool). P (job-count t) (place-count t) (s .price) x) (z .bars)
       (subst (λ (x : ℕ → ℕ → ℕ). P (job-count t) (place-count t) x (barred-in t)) (z .prices) h))
 
-  pub found-step : (t : Tariff) (found : Option Priced) (x : Priced) → found ≡ Some x
+  pub propose-step : (t : Tariff) (found : Option Priced) (a : Answer) → a ≡ proposal-of (offer found)
       → tariff-refusal (s .jobs) (m .count (s .workshop)) ≡ None → (s .round ≡ last-round → ⊥) → Sized t
       → Finds (job-count t) (place-count t) (joins (s .measure)) (price-of t) (barred-in t) (s .cuts) found
-      → Step m joins s Propose (Proposed (row-places (x .row)) (x .cost)) (with-pending s (offer found))
-  found-step t found x e none fresh z h =
-      let best = at-tables t z (λ n p price barred. Best n p (joins (s .measure)) price barred (s .cuts) (row-places (x .row)) (x .cost))
-      (subst (λ (f : Option Priced). Finds (job-count t) (place-count t) (joins (s .measure)) (price-of t) (barred-in t) (s .cuts) f) e h) in
-      subst (λ (f : Option Priced). Step m joins s Propose (Proposed (row-places (x .row)) (x .cost)) (with-pending s (offer f))) (sym e)
+      → Step m joins s Propose a (with-pending s (offer found))
+  propose-step t (Some x) a e none fresh z h =
+      subst (λ (b : Answer). Step m joins s Propose b (with-pending s (Some (row-places (x .row), x .cost)))) (sym e)
       (accepted (Proposed (row-places (x .row)) (x .cost)) (with-pending s (Some (row-places (x .row), x .cost))) none
-      (proposal-accepted (row-places (x .row)) (x .cost) fresh best))
-
-  pub nothing-step : (t : Tariff) (found : Option Priced) → found ≡ None
-      → tariff-refusal (s .jobs) (m .count (s .workshop)) ≡ None → (s .round ≡ last-round → ⊥) → Sized t
-      → Finds (job-count t) (place-count t) (joins (s .measure)) (price-of t) (barred-in t) (s .cuts) found
-      → Step m joins s Propose Nothing (with-pending s (offer found))
-  nothing-step t found e none fresh z h =
-      let empty = at-tables t z (λ n p price barred. No-candidate n p barred (s .cuts))
-      (subst (λ (f : Option Priced). Finds (job-count t) (place-count t) (joins (s .measure)) (price-of t) (barred-in t) (s .cuts) f) e h) in
-      subst (λ (f : Option Priced). Step m joins s Propose Nothing (with-pending s (offer f))) (sym e)
-      (accepted Nothing (with-pending s None) none (none-accepted fresh empty))
+      (proposal-accepted (row-places (x .row)) (x .cost) fresh
+      (at-tables t z (λ n p price barred. Best n p (joins (s .measure)) price barred (s .cuts) (row-places (x .row)) (x .cost)) h)))
+  propose-step t None a e none fresh z h =
+      subst (λ (b : Answer). Step m joins s Propose b (with-pending s None)) (sym e)
+      (accepted Nothing (with-pending s None) none (none-accepted fresh (at-tables t z (λ n p price barred. No-candidate n p barred (s .cuts)) h)))
 
   pub unknown-step : (row : List ℕ) (cost : ℕ) → tariff-refusal (s .jobs) (m .count (s .workshop)) ≡ None → (s .pending ≡ Some (row, cost) → ⊥)
       → Step m joins s (Judge row cost) (Refused NotPending) s

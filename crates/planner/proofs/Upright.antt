@@ -14,7 +14,7 @@ use Rattle.jobs.specs.Sets.{width}
 use Rattle.jobs.specs.declared.refusal.Refusal.the-variants.{JobsOutOfRange, PlacesOutOfRange}
 use Rattle.workshops.specs.Workshops.{Meaning, Lawful}
 use Rattle.master.specs.Master.{Best}
-use Rattle.master.specs.Refused.{most-places, or-else, unless, tariff-refusal}
+use Rattle.master.specs.Refused.{most-places, or-else, refused-unless, tariff-refusal}
 use Rattle.master.specs.declared.cut.Cut.{Cut}
 use Rattle.judging.specs.Judging.{Ends}
 use Rattle.judging.specs.declared.outcome.Outcome.{Outcome}
@@ -46,7 +46,7 @@ same-pair row other cost cost′ e = (ap (first row) e, ap (second cost) e)
 pub few-jobs : (n places : ℕ) → tariff-refusal n places ≡ None → n ≤ width
 few-jobs n places e = leb-true n width (and-parts (leb 1 n) (leb n width) (fine (leb 1 n && leb n width) e) .1)
   where
-    fine : (b : Bool) → or-else (unless b JobsOutOfRange) (unless (leb 1 places && leb places most-places) PlacesOutOfRange) ≡ None → b ≡ true
+    fine : (b : Bool) → or-else (refused-unless b JobsOutOfRange) (refused-unless (leb 1 places && leb places most-places) PlacesOutOfRange) ≡ None → b ≡ true
     fine true h = refl
     fine false h = absurd (no-some JobsOutOfRange (sym h))
 

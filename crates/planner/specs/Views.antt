@@ -48,6 +48,11 @@ proposing (Ok (Found p)) = Proposed (row-places (p .row)) (p .cost)
 proposing (Ok No-proposal) = Nothing
 proposing (Err e) = Refused e
 
+-- the answer of propose when this row with its cost was found, or nothing
+abbrev pub proposal-of : Option (List ℕ × ℕ) → Answer
+proposal-of None = Nothing
+proposal-of (Some x) = Proposed (x .0) (x .1)
+
 -- the answer of judge
 abbrev pub judging : Result Judgement Refusal → Answer
 judging (Ok (A-plan p)) = Planned (row-places (p .row)) (p .cost) (p .round)

@@ -1,5 +1,6 @@
 // What a planner answers. A proposal is no plan: only a judgement makes a plan, and a sheet uses it up,
 // so both are moved and never copied.
+ghost use mathlib.Core.Path.{_≡_};
 use master::row::Row;
 use workshops::reply::Fault;
 
@@ -43,4 +44,43 @@ pub enum Judgement {
         place: u8,
         added: u16,
     },
+}
+
+impl Proposal {
+    // The place of each job.
+    pub fn row(&self) -> Row
+        ensures { λ r. ⌜ r ≡ now (self .entry) .row ⌝ }
+    {
+        self.row
+    }
+
+    pub fn cost(&self) -> u32
+        ensures { λ r. ⌜ r ≡ now (self .entry) .cost ⌝ }
+    {
+        self.cost
+    }
+}
+
+impl Plan {
+    // The place of each job.
+    pub fn row(&self) -> Row
+        ensures { λ r. ⌜ r ≡ now (self .entry) .row ⌝ }
+    {
+        let row = self.row;
+        row
+    }
+
+    pub fn cost(&self) -> u32
+        ensures { λ r. ⌜ r ≡ now (self .entry) .cost ⌝ }
+    {
+        let cost = self.cost;
+        cost
+    }
+
+    // The round in which it was judged.
+    pub fn round(&self) -> u16
+        ensures { λ r. ⌜ r ≡ now (self .entry) .round ⌝ }
+    {
+        self.round
+    }
 }

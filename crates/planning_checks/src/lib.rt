@@ -1,5 +1,7 @@
-// Tests of the planner: the worked run, refusals, and proposals that are not pending.
+// Tests of the planner: the worked run, refusals, stale proposals, and cuts.
 #[cfg(test)]
 mod setup;
+#[cfg(test)]
+mod steps;
 #[cfg(test)]
 mod worked;

@@ -3,42 +3,47 @@ mod setup;
 
 use facilities::bench::BenchFacility;
 use facilities::stand::verdict::StandFacility;
+use master::measure::Measure;
 use master::measure::Sum;
 use master::measure::SumMeasure;
 use planner::answers::Judgement;
 use planner::answers::Plan;
+use planner::answers::Proposing;
 use planner::issue::issue;
 use planner::pile::run_on_pile;
-use planner::run::Answer;
+use planner::planner::Planner;
 use setup::Trouble;
 use setup::TroubleOutput;
 use setup::TroubleRefused;
 use setup::bench;
-use setup::calls;
+use setup::prices;
 use setup::stand;
 use std::io::Write;
 use workshops::allowance::AllowanceWorkshop;
 use workshops::lone::LoneWorkshop;
 use workshops::memo::MemoWorkshop;
 use workshops::pair::PairWorkshop;
+use workshops::workshop::Workshop;
 
-// The plan in which the run ends.
-fn planned(last: Option<Answer>) -> Result<Plan, Trouble> {
-    let Some(answer) = last else {
-        return Err(Trouble::NoPlan);
-    };
-    let Answer::Judging(judging) = answer else {
-        return Err(Trouble::NoPlan);
-    };
-    match judging? {
-        Judgement::Plan(plan) => Ok(plan),
-        _ => Err(Trouble::NoPlan),
+// Proposes and judges, in at most a hundred rounds, until there is a plan.
+fn planned<W: Workshop, J: Measure>(planner: &mut Planner<W, J>) -> Result<Plan, Trouble> {
+    for _ in 0..100 {
+        let Proposing::Found(proposal) = planner.propose()? else {
+            return Err(Trouble::NoPlan);
+        };
+        match planner.judge(proposal)? {
+            Judgement::Plan(plan) => return Ok(plan),
+            Judgement::Cut { .. } => {}
+            _ => return Err(Trouble::NoPlan),
+        }
     }
+    Err(Trouble::NoPlan)
 }
 
 fn main(rt: LibcRuntime) -> Result<(), Trouble> {
-    let ran = run_on_pile(3, Sum {}, bench()?, stand()?, &calls(6)?);
-    let plan = planned(ran.last)?;
+    let ran = run_on_pile(3, Sum {}, bench()?, stand()?, &prices(6));
+    let mut planner = ran.planner;
+    let plan = planned(&mut planner)?;
     let mut buffer = [0; 300];
     let Ok(length) = issue(plan, &mut buffer) else {
         return Err(Trouble::NoRoom);

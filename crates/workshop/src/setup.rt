@@ -1,8 +1,7 @@
-// The facilities and the calls of the run. On the bench the jobs 0 and 1 exclude each other.
+// The facilities, prices and grant of the run. On the bench the jobs 0 and 1 exclude each other.
 use facilities::bench::Bench;
 use facilities::stand::Stand;
 use jobs::refusal::Refusal;
-use master::row::Row;
 use planner::run::Call;
 use std::io;
 
@@ -47,11 +46,9 @@ fn price(job: u32, place: u32, amount: u32) -> Call {
     Call::Price { job, place, amount }
 }
 
-// Prices, a grant, and two rounds. The first judgement cuts the bench with the jobs 0 and 1.
-pub(crate) fn calls(granted: u16) -> Result<[Call; 11], Refusal> {
-    let all_on_the_bench = Row::new(&[0, 0, 0])?;
-    let one_on_the_stand = Row::new(&[0, 1, 0])?;
-    Ok([
+// The prices, and a grant of so many answers.
+pub(crate) fn prices(granted: u16) -> [Call; 7] {
+    [
         price(0, 0, 100),
         price(0, 1, 150),
         price(1, 0, 100),
@@ -59,15 +56,5 @@ pub(crate) fn calls(granted: u16) -> Result<[Call; 11], Refusal> {
         price(2, 0, 50),
         price(2, 1, 80),
         Call::Grant { amount: granted },
-        Call::Propose,
-        Call::Judge {
-            row: all_on_the_bench,
-            cost: 250,
-        },
-        Call::Propose,
-        Call::Judge {
-            row: one_on_the_stand,
-            cost: 270,
-        },
-    ])
+    ]
 }

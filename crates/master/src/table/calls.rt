@@ -143,7 +143,7 @@ impl CutTable {
     }
 
     // Whether a row without jobs obeys the cuts. Where it does not, no row does.
-    pub fn allows_start(&self) -> bool
+    pub(crate) fn allows_start(&self) -> bool
         ensures { λ r. ⌜ Exactly r (Obeys [] (held (now (self .entry)))) ⌝ }
     {
         for cut in self.held() {
@@ -156,7 +156,7 @@ impl CutTable {
 
     // Whether a beginning of a row that obeys the cuts still does with the job put at the place.
     // `so_far` has the jobs that are at the place already.
-    pub fn allows(&self, job: u32, place: u8, so_far: JobSet) -> bool
+    pub(crate) fn allows(&self, job: u32, place: u8, so_far: JobSet) -> bool
         ensures begun { λ r. ⌜ (job < width → (row : List ℕ) → length row ≡ job → Group row place (bits «so_far») → Obeys row (held (now (self .entry))) → Exactly r (Obeys (row ++ place ∷ []) (held (now (self .entry))))) ⌝ }
         ensures past { λ r. ⌜ (width ≤ job → r ≡ false) ⌝ }
     {

@@ -1,26 +1,44 @@
-// Making a planner, and the calls that change its prices and bars.
+// Making a planner, its prices, bars and grants, and its proposals.
 ghost use mathlib.Core.Path.{_≡_};
-ghost use mathlib.Core.List.{[]};
+ghost use mathlib.Core.List.{[], map};
 ghost use Prim.Native.Nat.{ℕ};
+ghost use Rattle.std.specs.declared.result.Result.the-variants.{Ok};
+ghost use Rattle.std.specs.shelf.Maps.{nth};
 ghost use Rattle.jobs.specs.Refusals.{Answered};
+ghost use Rattle.master.specs.Cuts.{shown};
 ghost use Rattle.master.specs.Refused.{tariff-refusal, If-refused};
 ghost use Rattle.master.specs.Tariffs.{Resized};
 ghost use Rattle.planner.specs.Calls.{Price, Bar, Grant, Propose};
 ghost use Rattle.planner.specs.Laws.{Goes-on, Runs};
 ghost use Rattle.planner.specs.States.{fresh};
 ghost use Rattle.planner.specs.Steps.{Step};
-ghost use Rattle.planner.specs.Views.{state, done, proposing};
+ghost use Rattle.planner.specs.Views.{state, offer, done, proposing, proposal-of};
 use crate::answers::Proposal;
 use crate::answers::Proposing;
 use crate::planner::LAST_ROUND;
 use crate::planner::Planner;
 use jobs::refusal::Refusal;
+use jobs::set::JobSet;
 use master::cheapest::cheapest;
 use master::measure::Measure;
+use master::priced::Priced;
 use master::table::CutTable;
 use master::tariff::Tariff;
 use master::tariff::calls::size_refusal;
 use workshops::workshop::Workshop;
+
+// The answer when this was found.
+fn proposed(found: Option<Priced>) -> Proposing
+    ensures { λ r. ⌜ proposing (Ok r) ≡ proposal-of (offer found) ⌝ }
+{
+    match found {
+        Some(best) => Proposing::Found(Proposal {
+            row: best.row,
+            cost: best.cost,
+        }),
+        None => Proposing::Nothing,
+    }
+}
 
 impl<W: Workshop, J: Measure> Planner<W, J> {
     // A planner for so many jobs, and the places of the workshop. Where there are too few or too many of
@@ -103,13 +121,15 @@ impl<W: Workshop, J: Measure> Planner<W, J> {
         if self.round >= LAST_ROUND {
             return Err(Refusal::RoundsUsedUp);
         }
-        self.pending = cheapest(&self.measure, &tariff, &self.cuts);
-        match self.pending {
-            Some(best) => Ok(Proposing::Found(Proposal {
-                row: best.row,
-                cost: best.cost,
-            })),
-            None => Ok(Proposing::Nothing),
-        }
+        let found = cheapest(&self.measure, &tariff, &self.cuts);
+        self.pending = found;
+        Ok(proposed(found))
+    }
+
+    // The place and the set of cut i, or nothing if fewer are held.
+    pub fn cut(&self, i: usize) -> Option<(u8, JobSet)>
+        ensures { λ r. ⌜ r ≡ nth (map shown (state (now (self .entry)) .cuts)) i ⌝ }
+    {
+        self.cuts.cut(i)
     }
 }

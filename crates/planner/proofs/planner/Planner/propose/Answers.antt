@@ -1,11 +1,12 @@
 use mathlib.Core.Path.{_≡_, refl, sym}
 use native.Mathlib.Omega.{arith}
 use Rattle.std.proofs.shelf.Results.{err-from-errBy}
-use Rattle.planner.specs.Views.{state}
+use Rattle.std.specs.declared.result.Result.the-variants.{Ok}
+use Rattle.planner.specs.Views.{state, proposing}
 use Rattle.planner.specs.Calls.{Propose}
 use Rattle.planner.specs.Steps.{last-round}
 use Rattle.planner.proofs.RunLaw.{called}
-use Rattle.planner.proofs.Stepping.{answered-err, answered-ok, idle-step, worn-step, found-step, nothing-step, sized-to}
+use Rattle.planner.proofs.Stepping.{answered-err, answered-ok, idle-step, worn-step, propose-step, sized-to}
 use Rattle.planner.proofs.planner.Planner.propose.Needs as need
 
 pub returns-in-Break-tariff : need.returns-in-Break-tariff
@@ -24,22 +25,12 @@ returns-then-self-ge-LAST-ROUND g c =
     (worn-step (g .W·Workshop .meaning) (g .J·Measure .joins) (state old) (answered-ok _ _ _ (c .in-Continue-tariff .ensures tt) .0) worn)
     refl
 
-pub returns-in-Some : need.returns-in-Some
-returns-in-Some g c =
+pub returns : need.returns
+returns g c =
     let old = c .args .self .now in
     let t = c .in-Continue-tariff .tariff in
     let fit = answered-ok _ _ _ (c .in-Continue-tariff .ensures tt) in
     called (g .W·Workshop .meaning) (g .J·Measure .joins) (g .W·Workshop·met .lawful)
-    (found-step (g .W·Workshop .meaning) (g .J·Measure .joins) (state old) t (c .cheapest-self .result) (c .in-Some .best) (c .in-Some .is) (fit .0) (λ e. omega arith)
-    (sized-to (g .W·Workshop .meaning) (g .J·Measure .joins) (state old) (old .tariff) t refl refl (fit .1)) (c .cheapest-self .ensures .found))
-    tt
-
-pub returns-in-None : need.returns-in-None
-returns-in-None g c =
-    let old = c .args .self .now in
-    let t = c .in-Continue-tariff .tariff in
-    let fit = answered-ok _ _ _ (c .in-Continue-tariff .ensures tt) in
-    called (g .W·Workshop .meaning) (g .J·Measure .joins) (g .W·Workshop·met .lawful)
-    (nothing-step (g .W·Workshop .meaning) (g .J·Measure .joins) (state old) t (c .cheapest-self .result) (c .in-None .is) (fit .0) (λ e. omega arith)
-    (sized-to (g .W·Workshop .meaning) (g .J·Measure .joins) (state old) (old .tariff) t refl refl (fit .1)) (c .cheapest-self .ensures .found))
+    (propose-step (g .W·Workshop .meaning) (g .J·Measure .joins) (state old) t (c .cheapest-found .result) (proposing (Ok (c .proposed .result))) (c .proposed .ensures) (fit .0) (λ e. omega arith)
+    (sized-to (g .W·Workshop .meaning) (g .J·Measure .joins) (state old) (old .tariff) t refl refl (fit .1)) (c .cheapest-found .ensures .found))
     tt
