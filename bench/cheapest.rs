@@ -232,7 +232,7 @@ fn random_cuts(random: &mut Random, wanted: usize) -> CutTable {
 }
 
 fn show(number: usize, held: usize, answer: Option<Priced>) {
-    print!("case {number}, cuts {held}: ");
+    print!("instance {number}, cuts {held}: ");
     match answer {
         None => println!("none"),
         Some(best) => {

@@ -48,7 +48,7 @@ fn main(rt: LibcRuntime) -> Result<(), Failure> {
         let cuts = random_cuts(&mut random, wanted.cuts)?;
         let held = cuts.len();
         let answer = Shown(cheapest(&Sum {}, &tariff, &cuts));
-        println!(rt, "case {number}, cuts {held}: {answer}")?;
+        println!(rt, "instance {number}, cuts {held}: {answer}")?;
     }
     Ok(())
 }
