@@ -60,27 +60,3 @@ impl Proposal {
         self.cost
     }
 }
-
-impl Plan {
-    // The place of each job.
-    pub fn row(&self) -> Row
-        ensures { λ r. ⌜ r ≡ now (self .entry) .row ⌝ }
-    {
-        let row = self.row;
-        row
-    }
-
-    pub fn cost(&self) -> u32
-        ensures { λ r. ⌜ r ≡ now (self .entry) .cost ⌝ }
-    {
-        let cost = self.cost;
-        cost
-    }
-
-    // The round in which it was judged.
-    pub fn round(&self) -> u16
-        ensures { λ r. ⌜ r ≡ now (self .entry) .round ⌝ }
-    {
-        self.round
-    }
-}

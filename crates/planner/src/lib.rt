@@ -2,5 +2,6 @@
 pub mod answers;
 pub mod issue;
 pub mod pile;
+mod plan;
 pub mod planner;
 pub mod run;
