@@ -5,7 +5,10 @@ set -u
 cd "$(dirname "$0")/.." || exit 2
 copy=$(mktemp -d) || exit 2
 trap 'rm -rf "$copy"' EXIT
-cp -r crates crates.txt target "$copy" || exit 2
+cp -r crates crates.txt "$copy" && mkdir "$copy/target" || exit 2
+for part in target/*; do
+    [ "$part" = target/must-fail ] || cp -r "$part" "$copy/target" || exit 2
+done
 main=crates/workshop/src/main.rt
 bad=0
 if ! (cd "$copy" && rt mir workshop) > "$copy/log" 2>&1; then
