@@ -1,4 +1,6 @@
 // Tests of the facilities and the workshops: worked examples, bounds, refusals, and a comparison with plain enumeration.
+#![tactic(auto)]
+
 pub mod answers;
 #[cfg(test)]
 mod bounds;

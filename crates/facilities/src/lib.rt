@@ -1,4 +1,6 @@
 // Facilities: what can schedule a set of jobs.
+#![tactic(auto)]
+
 pub mod bench;
 mod choices;
 pub mod facility;

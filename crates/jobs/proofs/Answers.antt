@@ -1,5 +1,5 @@
 -- How an answer is shown to be the one defined.
-use Rattle.std.proofs.Common.{◌≡◌, ℕ, ◌<◌, Bool, true, false, eqb, ltb, None, Ok, sym, refl, subst, lt-ltb, eqb-true}
+use Rattle.std.proofs.Common.{◌≡◌, ℕ, ◌<◌, Bool, true, false, eqb, None, Ok, sym, refl, subst, lt-ltb, eqb-true}
 use borrow.Author.Tests.{eqb-false}
 use Rattle.jobs.specs.declared.refusal.Refusal.TheVariants.{NoSuchJob}
 use Rattle.jobs.specs.Refusals.{Answered, unless}

@@ -1,9 +1,7 @@
 -- The bits of a number, one by one. Nothing here knows how many there are.
-use Rattle.std.proofs.Common.{◌≡◌, ℕ, zero, suc, ◌+◌, ◌-◌, ◌*◌, ◌/◌, ◌%◌, ◌^◌, ◌<◌, ◌≤◌, min, max, ◌≢◌, ◌⊎◌, sym, refl, ap, ◌∙◌, subst, inl, inr, ⊎_elim, arith}
+use Rattle.std.proofs.Common.{◌≡◌, ℕ, zero, suc, ◌+◌, ◌-◌, ◌/◌, ◌%◌, ◌^◌, ◌<◌, ◌≤◌, min, max, ◌≢◌, sym, refl, ap, ◌∙◌, arith}
 use native.Mathlib.Nat.{pow-succ', div-div-eq-div-mul}
-use lib.Bits.{bit_and, bit_or, and_step, or_step, and_shr, or_shr, and_le_l}
-use Rattle.std.proofs.lemmas.Nat.{pow_pos}
-use Rattle.std.proofs.lemmas.Bool.{cases_eq}
+use lib.Bits.{bit_and, bit_or, and_step, or_step, and_shr, or_shr}
 use Rattle.jobs.specs.Sets.{bit}
 
 pub bit_suc : (s i : ℕ) → bit s (suc i) ≡ bit (s / 2) i

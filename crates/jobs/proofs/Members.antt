@@ -1,9 +1,9 @@
 -- Laws of job sets, by their members. Nothing here knows how many jobs there are.
-use Rattle.std.proofs.Common.{◌≡◌, ℕ, zero, suc, ◌+◌, ◌-◌, ◌*◌, ◌/◌, ◌%◌, ◌^◌, ◌<◌, ◌≤◌, Bool, true, false, ◌≢◌, ◌⊎◌, List, [], ◌∷◌, ◌++◌, sym, refl, ap, ◌∙◌, subst, inl, inr, ⊎_elim, arith}
-use lib.Bits.{bit_and, bit_or}
+use Rattle.std.proofs.Common.{◌≡◌, ℕ, zero, suc, ◌+◌, ◌-◌, ◌*◌, ◌^◌, ◌<◌, ◌≢◌, ◌⊎◌, sym, refl, ap, ◌∙◌, subst, inl, inr, ⊎_elim, arith}
+use lib.Bits.{bit_and}
 use Rattle.std.proofs.lemmas.Bool.{cases_eq}
-use Rattle.jobs.specs.Sets.{bit, Has, Part, without, with_job, joined, width, job_refusal}
-use Rattle.jobs.specs.Words.{Same, Exactly}
+use Rattle.jobs.specs.Sets.{bit, Has, Part, without, with_job, joined}
+use Rattle.jobs.specs.Words.{Same}
 use Rattle.jobs.proofs.Bits.{bit_small, bit_zero, bit_below, by_bits, bit_off_same, bit_off_other, bit_on_same, bit_on_other, and_bit, or_bit}
 
 pub none_in_zero : (j : ℕ) → Has 0 j → ⊥

@@ -1,4 +1,6 @@
 // The master: measures, cuts, and the cheapest assignment.
+#![tactic(auto)]
+
 pub mod cheapest;
 pub mod cut;
 mod groups;

@@ -1,4 +1,6 @@
 // Tests of the planner: the worked run, refusals, stale proposals, and cuts.
+#![tactic(auto)]
+
 #[cfg(test)]
 mod setup;
 #[cfg(test)]

@@ -1,5 +1,7 @@
 // Cheapest assignments for random tariffs and cuts, the same in every run. The arguments are how many cuts
 // a table gets and how many cases there are.
+#![tactic(auto)]
+
 mod cases;
 mod random;
 mod show;

@@ -1,4 +1,6 @@
 // The sheet of a plan: its printed form.
+#![tactic(auto)]
+
 mod lines;
 mod numeral;
 mod parts;

@@ -1,4 +1,6 @@
 // A bench and a test stand with three jobs: which sets of them each can schedule, and what a workshop of both answers.
+#![tactic(auto)]
+
 mod ask;
 mod setup;
 mod show;

@@ -1,4 +1,6 @@
 // The worked run: three jobs, a bench and a test stand. It prints the sheet of the plan.
+#![tactic(auto)]
+
 mod setup;
 
 use master::measure::{Measure, Sum};

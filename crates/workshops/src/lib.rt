@@ -1,4 +1,6 @@
 // Workshops: places that can be asked whether they can schedule a set of jobs.
+#![tactic(auto)]
+
 pub mod allowance;
 pub mod lone;
 pub mod memo;

@@ -15,12 +15,12 @@ returns-in-Some c =
 
 pub put-head-end-requires : goal.put-head-end-requires
 put-head-end-requires c =
-    let room : sheet_room ≤ length c.args.buffer.now = has_room (length c.args.buffer.now) c.in-default.ensures in
+    let room : sheet_room ≤ length c.args.buffer.now = has_room (length c.args.buffer.now) c.in_default.ensures in
     omega (arith, length_head c.args.round c.args.cost (omega arith) (omega arith))
 
 pub put-lines-requires : goal.put-lines-requires
 put-lines-requires c =
-    let room : sheet_room ≤ length c.args.buffer.now = has_room (length c.args.buffer.now) c.in-default.ensures in
+    let room : sheet_room ≤ length c.args.buffer.now = has_room (length c.args.buffer.now) c.in_default.ensures in
     omega (arith, length_head c.args.round c.args.cost (omega arith) (omega arith))
 
 pub returns : goal.returns
@@ -29,7 +29,7 @@ returns c =
     let places = row_places c.args.row.now in
     let bytes = sheet c.args.round c.args.cost places in
     let put = sheet_put before c.put-head-end.new.buffer c.put-lines.new.buffer c.args.round c.args.cost places c.put-head-end.result c.put-lines.result c.put-head-end.ensures c.put-lines.ensures.bytes in
-    let both = accepted (room_refusal (length before)) before bytes c.put-lines.new.buffer c.put-lines.result (sym c.in-default.ensures) put.0 put.1 in
+    let both = accepted (room_refusal (length before)) before bytes c.put-lines.new.buffer c.put-lines.result (sym c.in_default.ensures) put.0 put.1 in
     record {
       answer = both.0;
       bytes = both.1;

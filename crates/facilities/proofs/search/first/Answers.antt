@@ -27,8 +27,8 @@ undo-requires g c =
     let i = c.loop-trial.invariant in
     record { sound = i.1; some = omega (arith, ap length (i.2.agrees ∙ c.in-Some.ensures), length-append (chosen c.pop.new.self) (c.in-Some.last ∷ [])) }
 
-pub overflow-add-next-else-next-choices : goal.overflow-add-next-else-next-choices
-overflow-add-next-else-next-choices g c = omega (arith, last_within _ _ _ _ _ _ c.loop-trial.invariant.2 _ _ c.in-Some.ensures)
+pub overflow_add-next-else-next-choices : goal.overflow_add-next-else-next-choices
+overflow_add-next-else-next-choices g c = omega (arith, last_within _ _ _ _ _ _ c.loop-trial.invariant.2 _ _ c.in-Some.ensures)
 
 pub loop-trial-smaller : goal.loop-trial-smaller
 loop-trial-smaller g c = less_up _ _ _ _ _ _ c.loop-trial.invariant.2 _ _ (omega arith) c.in-Some.ensures
@@ -51,10 +51,10 @@ returns g c =
       choices = omega (arith, c.width-choices.ensures.value, c.width-choices.ensures.bound);
     }
 
-pub returns-in-default : goal.returns-in-default
-returns-in-default g c =
+pub returns-in_default : goal.returns-in_default
+returns-in_default g c =
     let i = c.loop-trial.invariant in
-    let empty = c.in-default.ensures.0 in
+    let empty = c.in_default.ensures.0 in
     record {
       same = i.0;
       sound = i.1;

@@ -21,5 +21,5 @@ returns g c =
     let s = bits c.args.set in
     record {
       fails = c.requires;
-      shrinks = subst (λ js. Shrinks family js s (bits now.left)) c.jobs-jobs.ensures (shrinks_all family (listed c.jobs-jobs.result) now.place s (bits now.left) c.in-default.ensures now.invariant.1);
+      shrinks = subst (λ js. Shrinks family js s (bits now.left)) c.jobs-jobs.ensures (shrinks_all family (listed c.jobs-jobs.result) now.place s (bits now.left) c.in_default.ensures now.invariant.1);
     }

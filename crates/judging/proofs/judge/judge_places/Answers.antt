@@ -13,8 +13,8 @@ judge-place-requires g c = record {
   few = omega (arith, c.requires.few, c.loop-place-test.true);
 }
 
-pub overflow-add-added : goal.overflow-add-added
-overflow-add-added g c = omega (arith, c.loop-place.invariant.few, c.counted-added.ensures.bound, c.loop-place-test.true, c.requires.few)
+pub overflow_add-added : goal.overflow_add-added
+overflow_add-added g c = omega (arith, c.loop-place.invariant.few, c.counted-added.ensures.bound, c.loop-place-test.true, c.requires.few)
 
 pub returns-in-Stopped : goal.returns-in-Stopped
 returns-in-Stopped g c =

@@ -24,8 +24,8 @@ put-line-end-requires c =
     let byte : place < 256 = omega arith in
     omega (arith, lined_room c.args.buffer.now c.args.at (row_places row) l.job l.buffer l.end place l.invariant (omega arith) byte)
 
-pub overflow-add-job : goal.overflow-add-job
-overflow-add-job c =
+pub overflow_add-job : goal.overflow_add-job
+overflow_add-job c =
     let row = c.args.row.now in
     let given : slice_get (row_places row) c.loop-place.job ≡ Some c.in-Some.place = cc in
     omega (arith, job_within (row_places row) c.loop-place.job c.in-Some.place given, few_jobs row)

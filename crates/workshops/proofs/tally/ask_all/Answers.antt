@@ -13,13 +13,13 @@ returns-then-place-count g c = record {
 pub loop-i-init : goal.loop-i-init
 loop-i-init g c = going_none g.W.Workshop.meaning c.args.workshop.now c.args.place c.args.sets.now
 
-pub returns-in-err-verdict : goal.returns-in-err-verdict
-returns-in-err-verdict g c =
+pub returns-in_err-verdict : goal.returns-in_err-verdict
+returns-in_err-verdict g c =
     let inside = going_inside g.W.Workshop.meaning g.met.W.Workshop.lawful c.args.workshop.now c.loop-i.workshop c.args.place c.args.sets.now _ _ c.loop-i.invariant (omega arith) in
-    absurd (c.in-err-verdict.ensures.answers inside)
+    absurd (c.in_err-verdict.ensures.answers inside)
 
-pub overflow-add-yes : goal.overflow-add-yes
-overflow-add-yes g c =
+pub overflow_add-yes : goal.overflow_add-yes
+overflow_add-yes g c =
     let few = going_few g.W.Workshop.meaning c.args.workshop.now c.loop-i.workshop c.args.place c.args.sets.now _ _ c.loop-i.invariant in
     omega arith
 
@@ -30,7 +30,7 @@ returns-in-Stop g c =
     let inside = going_inside m law c.args.workshop.now c.loop-i.workshop c.args.place c.args.sets.now _ _ c.loop-i.invariant (omega arith) in
     record {
       tally = tallied m c.args.workshop.now c.verdict.new.self c.args.place c.args.sets.now _ (omega arith)
-          (going_stopped m law c.args.workshop.now c.loop-i.workshop c.verdict.new.self c.args.place c.args.sets.now c.loop-i.i c.loop-i.yes _ c.in-Stop.fault _ c.in-Stop.is (omega arith) inside c.loop-i.invariant c.in-ok-verdict.ensures);
+          (going_stopped m law c.args.workshop.now c.loop-i.workshop c.verdict.new.self c.args.place c.args.sets.now c.loop-i.i c.loop-i.yes _ c.in-Stop.fault _ c.in-Stop.is (omega arith) inside c.loop-i.invariant c.in_ok-verdict.ensures);
       steady = all_steady m law;
     }
 
@@ -38,8 +38,8 @@ pub loop-i-preserved : goal.loop-i-preserved
 loop-i-preserved g c =
     let m = g.W.Workshop.meaning in
     elim c.match-branch-2.branch [
-      | in-Yes w ↦ going_more m true c.args.workshop.now c.loop-i.workshop c.verdict.new.self c.args.place c.args.sets.now c.loop-i.i c.loop-i.yes c.match-branch-2.yes _ _ w.in-Yes.is (omega (arith, w.yes-is)) (omega arith) c.loop-i.invariant c.in-ok-verdict.ensures
-      | in-No w ↦ going_more m false c.args.workshop.now c.loop-i.workshop c.verdict.new.self c.args.place c.args.sets.now c.loop-i.i c.loop-i.yes c.match-branch-2.yes _ _ w.in-No.is (omega (arith, w.yes-is)) (omega arith) c.loop-i.invariant c.in-ok-verdict.ensures
+      | in-Yes w ↦ going_more m true c.args.workshop.now c.loop-i.workshop c.verdict.new.self c.args.place c.args.sets.now c.loop-i.i c.loop-i.yes c.match-branch-2.yes _ _ w.in-Yes.is (omega (arith, w.yes-is)) (omega arith) c.loop-i.invariant c.in_ok-verdict.ensures
+      | in-No w ↦ going_more m false c.args.workshop.now c.loop-i.workshop c.verdict.new.self c.args.place c.args.sets.now c.loop-i.i c.loop-i.yes c.match-branch-2.yes _ _ w.in-No.is (omega (arith, w.yes-is)) (omega arith) c.loop-i.invariant c.in_ok-verdict.ensures
     ]
 
 pub returns : goal.returns

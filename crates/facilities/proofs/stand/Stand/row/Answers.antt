@@ -6,8 +6,8 @@ use Rattle.facilities.specs.Rows.{row_list, in_range}
 use Rattle.facilities.proofs.Feeding.{fed_row, fed_set, passed}
 use Rattle.facilities.proofs.stand.Stand.row.Goals as goal
 
-pub invariant-of-self : goal.invariant-of-self
-invariant-of-self c =
+pub invariant_of-self : goal.invariant_of-self
+invariant_of-self c =
     let a = c.args in
     let s = a.self.now in
     let row = c.in-Some.row in

@@ -1,4 +1,4 @@
-use Rattle.std.proofs.Common.{◌<◌, ◌≤◌, length, take, sym, arith, get_or-take}
+use Rattle.std.proofs.Common.{◌<◌, ◌≤◌, length, sym, arith, get_or-take}
 use Rattle.std.proofs.lemmas.List.{length-take-le}
 use Rattle.jobs.proofs.list.JobList.get.Goals as goal
 

@@ -1,6 +1,6 @@
-use Rattle.std.proofs.Common.{◌≡◌, ◌<◌, [], ◌∷◌, ◌++◌, sym, ap, ◌∙◌, subst, arith}
+use Rattle.std.proofs.Common.{[], ◌∷◌, ◌++◌, ap, ◌∙◌, arith}
 use Rattle.jobs.specs.Lists.{listed}
-use Rattle.jobs.specs.Sets.{width, jobs_of}
+use Rattle.jobs.specs.Sets.{jobs_of}
 use Rattle.jobs.proofs.Lists.{list_more, list_room, list_all, without_less}
 use Rattle.jobs.proofs.set.JobSet.jobs.Goals as goal
 

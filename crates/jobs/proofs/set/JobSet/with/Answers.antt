@@ -1,4 +1,4 @@
-use Rattle.std.proofs.Common.{◌≡◌, ℕ, ◌+◌, ◌*◌, ◌%◌, ◌^◌, ◌<◌, sym, ap, ◌∙◌, arith}
+use Rattle.std.proofs.Common.{◌≡◌, ◌+◌, ◌*◌, ◌%◌, ◌^◌, ◌<◌, sym, ap, ◌∙◌, arith}
 use Rattle.std.proofs.lemmas.Nat.{one_shl}
 use Rattle.jobs.specs.Sets.{width, Has, with_job}
 use Rattle.jobs.proofs.Answers.{accepted, changed}
@@ -17,8 +17,8 @@ returns-then-contains c =
       members = accepted i _ _ l (λ j. changed (λ n. Has n j) e (with_members s i j));
     }
 
-pub overflow-add-result : goal.overflow-add-result
-overflow-add-result c =
+pub overflow_add-result : goal.overflow_add-result
+overflow_add-result c =
     let i = c.args.job in
     let s = c.args.self.bits in
     let small : s < 2 ^ width = omega arith in

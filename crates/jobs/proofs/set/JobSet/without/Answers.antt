@@ -1,4 +1,4 @@
-use Rattle.std.proofs.Common.{◌≡◌, ℕ, ◌-◌, ◌*◌, ◌%◌, ◌^◌, ◌<◌, sym, ap, ◌∙◌, subst, arith}
+use Rattle.std.proofs.Common.{◌≡◌, ◌-◌, ◌*◌, ◌%◌, ◌^◌, ◌<◌, sym, ap, ◌∙◌, arith}
 use Rattle.std.proofs.lemmas.Nat.{one_shl}
 use Rattle.jobs.specs.Sets.{width, Has, without}
 use Rattle.jobs.proofs.Answers.{changed}
@@ -21,8 +21,8 @@ returns-then-not-contains c =
     let e = without_absent s i c.if-not-contains.ensures in
     record { value = sym e; members = λ j. changed (λ n. Has n j) e (without_members s i j) }
 
-pub overflow-sub-result : goal.overflow-sub-result
-overflow-sub-result c =
+pub overflow_sub-result : goal.overflow_sub-result
+overflow_sub-result c =
     let i = c.args.job in
     omega (arith, one_shl i width c.if-job.false, bit_le c.args.self.bits i c.if-not-contains.ensures)
 

@@ -4,7 +4,7 @@ use Rattle.master.specs.Refused.{top_price}
 use Rattle.master.proofs.Offering.{low_set}
 use Rattle.master.proofs.offer.Offer.with_price.Goals as goal
 
-pub invariant-of-result : goal.invariant-of-result
-invariant-of-result c =
+pub invariant_of-result : goal.invariant_of-result
+invariant_of-result c =
     let o = c.args.self in
     (length-set o.prices c.args.place c.args.amount ∙ o.priced, (o.marked, (low_set o.prices c.args.place c.args.amount top_price c.requires.amount o.low, tt)))

@@ -19,14 +19,14 @@ returns-then-covers c =
 pub loop-i-init : goal.loop-i-init
 loop-i-init c = record { leaves = none; long = c.args.self.now.wide; few = omega arith }
 
-pub offset-bounds-left-len : goal.offset-bounds-left-len
-offset-bounds-left-len c = omega (arith, c.loop-i.invariant.few, c.args.self.now.few, c.loop-i-test.true)
+pub offset_bounds-left-len : goal.offset_bounds-left-len
+offset_bounds-left-len c = omega (arith, c.loop-i.invariant.few, c.args.self.now.few, c.loop-i-test.true)
 
 pub bounds-left-len : goal.bounds-left-len
 bounds-left-len c = omega (arith, c.loop-i.invariant.few, c.args.self.now.few, c.loop-i-test.true)
 
-pub overflow-add-len : goal.overflow-add-len
-overflow-add-len c = omega (arith, c.loop-i.invariant.few, c.args.self.now.few, c.loop-i-test.true)
+pub overflow_add-len : goal.overflow_add-len
+overflow_add-len c = omega (arith, c.loop-i.invariant.few, c.args.self.now.few, c.loop-i-test.true)
 
 pub loop-i-preserved : goal.loop-i-preserved
 loop-i-preserved c =
@@ -59,17 +59,17 @@ returns-then-not-has-room c =
       same = refl;
     }
 
-pub offset-bounds-left-len-2 : goal.offset-bounds-left-len-2
-offset-bounds-left-len-2 c = omega (arith, c.loop-i.invariant.few, c.args.self.now.few, c.loop-i.auto.i-end)
+pub offset_bounds-left-len-2 : goal.offset_bounds-left-len-2
+offset_bounds-left-len-2 c = omega (arith, c.loop-i.invariant.few, c.args.self.now.few, c.loop-i.auto.i-end)
 
 pub bounds-left-len-2 : goal.bounds-left-len-2
 bounds-left-len-2 c = omega (arith, c.loop-i.invariant.few, c.args.self.now.few, c.loop-i.auto.i-end, c.if-not-has-room.ensures)
 
-pub overflow-add-self : goal.overflow-add-self
-overflow-add-self c = omega (arith, c.loop-i.invariant.few, c.args.self.now.few, c.loop-i.auto.i-end)
+pub overflow_add-self : goal.overflow_add-self
+overflow_add-self c = omega (arith, c.loop-i.invariant.few, c.args.self.now.few, c.loop-i.auto.i-end)
 
-pub invariant-of-self : goal.invariant-of-self
-invariant-of-self c =
+pub invariant_of-self : goal.invariant_of-self
+invariant_of-self c =
     let near : c.args.place < most_places = omega arith in
     let t = c.args.self.now in
     let new = cut_of c.args.place c.args.set in

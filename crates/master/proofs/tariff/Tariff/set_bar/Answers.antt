@@ -9,12 +9,12 @@ returns c =
     let place = c.args.place in
     let old = c.index-self-job.result in
     let new = c.with_bar.result in
-    let fine = pair_fine t.jobs t.places job place c.in-default.ensures in
+    let fine = pair_fine t.jobs t.places job place c.in_default.ensures in
     let held : job < length t.offers = omega (arith, t.wide, t.few_jobs, fine.0) in
     let inside : place < length (get_or t.offers job old).barred = omega (arith, (get_or t.offers job old).marked, t.few_places, fine.1) in
     let bars : new.barred ≡ set (get_or t.offers job old).barred place c.args.barred = cc in
     record {
-      set = accepted_as _ tt _ (sym c.in-default.ensures) (record {
+      set = accepted_as _ tt _ (sym c.in_default.ensures) (record {
         jobs_are = refl;
         places_are = refl;
         prices_are = entry_kept (λ o. o.prices) 0 t.offers job old new held c.with_bar.ensures.prices;

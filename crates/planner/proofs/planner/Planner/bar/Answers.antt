@@ -6,32 +6,32 @@ use Rattle.planner.proofs.RunLaw.{called}
 use Rattle.planner.proofs.Stepping.{answered_err, answered_ok, idle_step, bar_refused_step, bar_step, sized_to}
 use Rattle.planner.proofs.planner.Planner.bar.Goals as goal
 
-pub returns-in-err-tariff : goal.returns-in-err-tariff
-returns-in-err-tariff g c =
+pub returns-in_err-tariff : goal.returns-in_err-tariff
+returns-in_err-tariff g c =
     let p = err_from_is_err_and c.from-residual.result c.from-residual.ensures.1 in
     rw (p.1, p.2) (called g.W.Workshop.meaning g.J.Measure.joins g.met.W.Workshop.lawful
     (idle_step g.W.Workshop.meaning g.J.Measure.joins (state c.args.self.now)
-    (Bar c.args.job c.args.place c.args.barred) c.in-err-tariff.field-0.0 (answered_err _ _ _ c.in-err-tariff.ensures))
+    (Bar c.args.job c.args.place c.args.barred) c.in_err-tariff.field-0.0 (answered_err _ _ _ c.in_err-tariff.ensures))
     refl)
 
-pub returns-in-err-set-bar : goal.returns-in-err-set-bar
-returns-in-err-set-bar g c =
-    let p = err_from_is_err_and c.from-residual-in-err-set-bar.result c.from-residual-in-err-set-bar.ensures.1 in
+pub returns-in_err-set-bar : goal.returns-in_err-set-bar
+returns-in_err-set-bar g c =
+    let p = err_from_is_err_and c.from-residual-in_err-set-bar.result c.from-residual-in_err-set-bar.ensures.1 in
     let old = c.args.self.now in
-    let t = c.in-ok-tariff.tariff in
-    let fit = answered_ok _ _ _ c.in-ok-tariff.ensures in
+    let t = c.in_ok-tariff.tariff in
+    let fit = answered_ok _ _ _ c.in_ok-tariff.ensures in
     rw (p.1, p.2) (called g.W.Workshop.meaning g.J.Measure.joins g.met.W.Workshop.lawful
-    (bar_refused_step g.W.Workshop.meaning g.J.Measure.joins (state old) t c.args.job c.args.place c.args.barred c.in-err-set-bar.field-0.0
+    (bar_refused_step g.W.Workshop.meaning g.J.Measure.joins (state old) t c.args.job c.args.place c.args.barred c.in_err-set-bar.field-0.0
     fit.0 (sized_to g.W.Workshop.meaning g.J.Measure.joins (state old) old.tariff t refl refl fit.1)
-    (answered_err _ _ _ c.in-err-set-bar.ensures.set))
+    (answered_err _ _ _ c.in_err-set-bar.ensures.set))
     refl)
 
 pub returns : goal.returns
 returns g c =
     let old = c.args.self.now in
-    let t = c.in-ok-tariff.tariff in
-    let fit = answered_ok _ _ _ c.in-ok-tariff.ensures in
-    let set = answered_ok _ _ _ c.in-ok-set-bar.ensures.set in
+    let t = c.in_ok-tariff.tariff in
+    let fit = answered_ok _ _ _ c.in_ok-tariff.ensures in
+    let set = answered_ok _ _ _ c.in_ok-set-bar.ensures.set in
     called g.W.Workshop.meaning g.J.Measure.joins g.met.W.Workshop.lawful
     (bar_step g.W.Workshop.meaning g.J.Measure.joins (state old) t c.set-bar.new.self c.args.job c.args.place c.args.barred
     fit.0 (sized_to g.W.Workshop.meaning g.J.Measure.joins (state old) old.tariff t refl refl fit.1) set.0 set.1)

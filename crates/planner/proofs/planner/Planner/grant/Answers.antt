@@ -12,5 +12,5 @@ returns-in-Some g c = called g.W.Workshop.meaning g.J.Measure.joins g.met.W.Work
 
 pub returns : goal.returns
 returns g c = called g.W.Workshop.meaning g.J.Measure.joins g.met.W.Workshop.lawful
-    (grant_step g.W.Workshop.meaning g.J.Measure.joins (state c.args.self.now) c.args.amount c.grant.new.self (sym c.in-default.ensures) c.grant.ensures.grants)
+    (grant_step g.W.Workshop.meaning g.J.Measure.joins (state c.args.self.now) c.args.amount c.grant.new.self (sym c.in_default.ensures) c.grant.ensures.grants)
     tt

@@ -20,7 +20,7 @@ pub returns-then-not-is-pending : goal.returns-then-not-is-pending
 returns-then-not-is-pending g c =
     let x = c.args.proposal in
     called g.W.Workshop.meaning g.J.Measure.joins g.met.W.Workshop.lawful
-    (unknown_step g.W.Workshop.meaning g.J.Measure.joins (state c.args.self.now) (row_places x.row) x.cost (sym c.in-default.ensures) c.if-not-is-pending.ensures)
+    (unknown_step g.W.Workshop.meaning g.J.Measure.joins (state c.args.self.now) (row_places x.row) x.cost (sym c.in_default.ensures) c.if-not-is-pending.ensures)
     refl
 
 pub returns : goal.returns
@@ -31,9 +31,9 @@ returns g c =
     let v = c.judge-row.new.workshop in
     let cuts = held c.judge-row.new.cuts in
     let count = m.count old.workshop in
-    let ends = answered_ok (judge_refusal count) c.in-ok-outcome.outcome
-    (λ o. Ends m old.workshop (held old.cuts) (row_places x.row) count o v cuts) c.in-ok-outcome.ensures.ends in
+    let ends = answered_ok (judge_refusal count) c.in_ok-outcome.outcome
+    (λ o. Ends m old.workshop (held old.cuts) (row_places x.row) count o v cuts) c.in_ok-outcome.ensures.ends in
     called m g.J.Measure.joins g.met.W.Workshop.lawful
-    (judge_step m g.J.Measure.joins (state old) (row_places x.row) x.cost c.in-ok-outcome.outcome v cuts
-    (judging (Ok c.concluded.result)) c.concluded.ensures (sym c.in-default.ensures) c.if-not-is-pending.ensures ends.1)
+    (judge_step m g.J.Measure.joins (state old) (row_places x.row) x.cost c.in_ok-outcome.outcome v cuts
+    (judging (Ok c.concluded.result)) c.concluded.ensures (sym c.in_default.ensures) c.if-not-is-pending.ensures ends.1)
     tt

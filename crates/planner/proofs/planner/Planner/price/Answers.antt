@@ -6,32 +6,32 @@ use Rattle.planner.proofs.RunLaw.{called}
 use Rattle.planner.proofs.Stepping.{answered_err, answered_ok, idle_step, price_refused_step, price_step, sized_to}
 use Rattle.planner.proofs.planner.Planner.price.Goals as goal
 
-pub returns-in-err-tariff : goal.returns-in-err-tariff
-returns-in-err-tariff g c =
+pub returns-in_err-tariff : goal.returns-in_err-tariff
+returns-in_err-tariff g c =
     let p = err_from_is_err_and c.from-residual.result c.from-residual.ensures.1 in
     rw (p.1, p.2) (called g.W.Workshop.meaning g.J.Measure.joins g.met.W.Workshop.lawful
     (idle_step g.W.Workshop.meaning g.J.Measure.joins (state c.args.self.now)
-    (Price c.args.job c.args.place c.args.amount) c.in-err-tariff.field-0.0 (answered_err _ _ _ c.in-err-tariff.ensures))
+    (Price c.args.job c.args.place c.args.amount) c.in_err-tariff.field-0.0 (answered_err _ _ _ c.in_err-tariff.ensures))
     refl)
 
-pub returns-in-err-set-price : goal.returns-in-err-set-price
-returns-in-err-set-price g c =
-    let p = err_from_is_err_and c.from-residual-in-err-set-price.result c.from-residual-in-err-set-price.ensures.1 in
+pub returns-in_err-set-price : goal.returns-in_err-set-price
+returns-in_err-set-price g c =
+    let p = err_from_is_err_and c.from-residual-in_err-set-price.result c.from-residual-in_err-set-price.ensures.1 in
     let old = c.args.self.now in
-    let t = c.in-ok-tariff.tariff in
-    let fit = answered_ok _ _ _ c.in-ok-tariff.ensures in
+    let t = c.in_ok-tariff.tariff in
+    let fit = answered_ok _ _ _ c.in_ok-tariff.ensures in
     rw (p.1, p.2) (called g.W.Workshop.meaning g.J.Measure.joins g.met.W.Workshop.lawful
-    (price_refused_step g.W.Workshop.meaning g.J.Measure.joins (state old) t c.args.job c.args.place c.args.amount c.in-err-set-price.field-0.0
+    (price_refused_step g.W.Workshop.meaning g.J.Measure.joins (state old) t c.args.job c.args.place c.args.amount c.in_err-set-price.field-0.0
     fit.0 (sized_to g.W.Workshop.meaning g.J.Measure.joins (state old) old.tariff t refl refl fit.1)
-    (answered_err _ _ _ c.in-err-set-price.ensures.set))
+    (answered_err _ _ _ c.in_err-set-price.ensures.set))
     refl)
 
 pub returns : goal.returns
 returns g c =
     let old = c.args.self.now in
-    let t = c.in-ok-tariff.tariff in
-    let fit = answered_ok _ _ _ c.in-ok-tariff.ensures in
-    let set = answered_ok _ _ _ c.in-ok-set-price.ensures.set in
+    let t = c.in_ok-tariff.tariff in
+    let fit = answered_ok _ _ _ c.in_ok-tariff.ensures in
+    let set = answered_ok _ _ _ c.in_ok-set-price.ensures.set in
     called g.W.Workshop.meaning g.J.Measure.joins g.met.W.Workshop.lawful
     (price_step g.W.Workshop.meaning g.J.Measure.joins (state old) t c.set-price.new.self c.args.job c.args.place c.args.amount
     fit.0 (sized_to g.W.Workshop.meaning g.J.Measure.joins (state old) old.tariff t refl refl fit.1) set.0 set.1)

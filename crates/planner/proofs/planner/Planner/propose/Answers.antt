@@ -7,12 +7,12 @@ use Rattle.planner.proofs.RunLaw.{called}
 use Rattle.planner.proofs.Stepping.{answered_err, answered_ok, idle_step, worn_step, propose_step, sized_to}
 use Rattle.planner.proofs.planner.Planner.propose.Goals as goal
 
-pub returns-in-err-tariff : goal.returns-in-err-tariff
-returns-in-err-tariff g c =
+pub returns-in_err-tariff : goal.returns-in_err-tariff
+returns-in_err-tariff g c =
     let p = err_from_is_err_and c.from-residual.result c.from-residual.ensures.1 in
     rw (p.1, p.2) (called g.W.Workshop.meaning g.J.Measure.joins g.met.W.Workshop.lawful
     (idle_step g.W.Workshop.meaning g.J.Measure.joins (state c.args.self.now)
-    Propose c.in-err-tariff.field-0.0 (answered_err _ _ _ c.in-err-tariff.ensures))
+    Propose c.in_err-tariff.field-0.0 (answered_err _ _ _ c.in_err-tariff.ensures))
     refl)
 
 pub returns-then-self-ge-LAST-ROUND : goal.returns-then-self-ge-LAST-ROUND
@@ -20,14 +20,14 @@ returns-then-self-ge-LAST-ROUND g c =
     let old = c.args.self.now in
     let worn : old.round ≡ last_round = omega arith in
     called g.W.Workshop.meaning g.J.Measure.joins g.met.W.Workshop.lawful
-    (worn_step g.W.Workshop.meaning g.J.Measure.joins (state old) (answered_ok _ _ _ c.in-ok-tariff.ensures).0 worn)
+    (worn_step g.W.Workshop.meaning g.J.Measure.joins (state old) (answered_ok _ _ _ c.in_ok-tariff.ensures).0 worn)
     refl
 
 pub returns : goal.returns
 returns g c =
     let old = c.args.self.now in
-    let t = c.in-ok-tariff.tariff in
-    let fit = answered_ok _ _ _ c.in-ok-tariff.ensures in
+    let t = c.in_ok-tariff.tariff in
+    let fit = answered_ok _ _ _ c.in_ok-tariff.ensures in
     called g.W.Workshop.meaning g.J.Measure.joins g.met.W.Workshop.lawful
     (propose_step g.W.Workshop.meaning g.J.Measure.joins (state old) t c.cheapest-found.result (proposing (Ok c.proposed.result)) c.proposed.ensures fit.0 (λ e. omega arith)
     (sized_to g.W.Workshop.meaning g.J.Measure.joins (state old) old.tariff t refl refl fit.1) c.cheapest-found.ensures.found)

@@ -4,8 +4,8 @@ use Rattle.jobs.proofs.Lists.{few_jobs}
 use Rattle.facilities.specs.LinesLemmas.{none_after, lined_after, pushed}
 use Rattle.facilities.proofs.bench.line.LineTrial.take.Goals as goal
 
-pub returns-in-default : goal.returns-in-default
-returns-in-default c = let s = c.requires.sound in record { same = refl; sound = s; took = (none_after _ _ _ _ _ s _ c.in-default.ensures, refl) }
+pub returns-in_default : goal.returns-in_default
+returns-in_default c = let s = c.requires.sound in record { same = refl; sound = s; took = (none_after _ _ _ _ _ s _ c.in_default.ensures, refl) }
 
 pub bounds-self-len : goal.bounds-self-len
 bounds-self-len c = omega (arith, c.requires.room, few_jobs (bits c.args.self.now.batch.set))

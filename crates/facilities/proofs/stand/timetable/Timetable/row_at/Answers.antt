@@ -8,5 +8,5 @@ pub get-requires-2 : goal.get-requires-2
 get-requires-2 c =
     let k = c.args.level in
     let js = jobs_of (bits c.args.self.now.demand.set) in
-    let is : c.in-ok-job.job ≡ get_or js k 0 = c.in-ok-job.ensures.1 ∙ ap (λ ks. get_or ks k 0) c.requires.all in
+    let is : c.in_ok-job.job ≡ get_or js k 0 = c.in_ok-job.ensures.1 ∙ ap (λ ks. get_or ks k 0) c.requires.all in
     (lit< tt, omega (arith, is, All-get_or (λ j. j < width) js k 0 c.requires.within (jobs_below (bits c.args.self.now.demand.set))))

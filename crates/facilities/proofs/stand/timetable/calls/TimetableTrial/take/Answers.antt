@@ -8,13 +8,13 @@ use Rattle.facilities.specs.Usages.{table}
 use Rattle.facilities.specs.TimetablesLemmas.{level_row, ends_in_day, no_row, fits_not, feeds_not, room_left, stands_on, pushed}
 use Rattle.facilities.proofs.stand.timetable.calls.TimetableTrial.take.Goals as goal
 
-pub returns-in-default : goal.returns-in-default
-returns-in-default c =
+pub returns-in_default : goal.returns-in_default
+returns-in_default c =
     let t = c.args.self.now in
     let rows = row_list t.demand.rows in
     let js = jobs_of (bits t.demand.set) in
     let xs = chosen t.starts in
-    let e = level_row rows js xs c.len.result None c.len.ensures.value c.in-default.ensures in
+    let e = level_row rows js xs c.len.result None c.len.ensures.value c.in_default.ensures in
     record { same = refl; sound = c.requires.sound; took = (no_row rows t.demand.supply js xs c.args.choice e, refl) }
 
 pub returns-then-not-fits : goal.returns-then-not-fits

@@ -20,14 +20,14 @@ row-at-requires c =
       within = subst (λ n. n < length js) (sym c.len.ensures.value) (allowed_level rows t.demand.supply js xs c.in-Some.start s.stands);
     }
 
-pub returns-in-default-row-at : goal.returns-in-default-row-at
-returns-in-default-row-at c =
+pub returns-in_default-row-at : goal.returns-in_default-row-at
+returns-in_default-row-at c =
     let t = c.args.self.now in
     let rows = row_list t.demand.rows in
     let js = jobs_of (bits t.demand.set) in
     let xs = chosen c.pop.new.self in
     let s = subst (λ zs. Sound rows t.demand.supply js (listed t.jobs) zs (table t.usage)) c.in-Some.ensures c.requires.sound in
-    let e = level_row rows js xs c.len.result None c.len.ensures.value c.in-default-row-at.ensures in
+    let e = level_row rows js xs c.len.result None c.len.ensures.value c.in_default-row-at.ensures in
     absurd (no_row rows t.demand.supply js xs c.in-Some.start e s.stands)
 
 pub free-requires : goal.free-requires
