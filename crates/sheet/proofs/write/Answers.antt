@@ -13,13 +13,13 @@ returns-in-Some c =
     let both = refused (room_refusal (length before)) c.in-Some.refusal before bytes c.in-Some.ensures in
     record { answer = both.0; bytes = both.1; short = tt; apart = told_apart; numerals = plain }
 
-pub put-head-end-requires : goal.put-head-end-requires
-put-head-end-requires c =
+pub put_head-end-requires : goal.put_head-end-requires
+put_head-end-requires c =
     let room : sheet_room ≤ length c.args.buffer.now = has_room (length c.args.buffer.now) c.in_default.ensures in
     omega (arith, length_head c.args.round c.args.cost (omega arith) (omega arith))
 
-pub put-lines-requires : goal.put-lines-requires
-put-lines-requires c =
+pub put_lines-requires : goal.put_lines-requires
+put_lines-requires c =
     let room : sheet_room ≤ length c.args.buffer.now = has_room (length c.args.buffer.now) c.in_default.ensures in
     omega (arith, length_head c.args.round c.args.cost (omega arith) (omega arith))
 
@@ -28,8 +28,8 @@ returns c =
     let before = c.args.buffer.now in
     let places = row_places c.args.row.now in
     let bytes = sheet c.args.round c.args.cost places in
-    let put = sheet_put before c.put-head-end.new.buffer c.put-lines.new.buffer c.args.round c.args.cost places c.put-head-end.result c.put-lines.result c.put-head-end.ensures c.put-lines.ensures.bytes in
-    let both = accepted (room_refusal (length before)) before bytes c.put-lines.new.buffer c.put-lines.result (sym c.in_default.ensures) put.0 put.1 in
+    let put = sheet_put before c.put_head-end.new.buffer c.put_lines.new.buffer c.args.round c.args.cost places c.put_head-end.result c.put_lines.result c.put_head-end.ensures c.put_lines.ensures.bytes in
+    let both = accepted (room_refusal (length before)) before bytes c.put_lines.new.buffer c.put_lines.result (sym c.in_default.ensures) put.0 put.1 in
     record {
       answer = both.0;
       bytes = both.1;

@@ -10,8 +10,8 @@ loop-job-preserved g c =
     let now = c.loop-job in
     let here = c.in-Some.ensures in (
       omega (arith, here.0),
-      shrinks_turn (g.F.Facility.family c.args.facility.now) (listed c.jobs-jobs.result) now.place (bits c.args.set) (bits now.left) c.in-Some.job (bits c.left-out-left.result)
-          here.0 here.1 now.invariant.1 c.left-out-left.ensures,
+      shrinks_turn (g.F.Facility.family c.args.facility.now) (listed c.jobs-jobs.result) now.place (bits c.args.set) (bits now.left) c.in-Some.job (bits c.left_out-left.result)
+          here.0 here.1 now.invariant.1 c.left_out-left.ensures,
     )
 
 pub returns : goal.returns

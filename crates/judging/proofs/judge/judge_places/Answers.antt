@@ -7,8 +7,8 @@ use Rattle.judging.proofs.judge.judge_places.Goals.{in-Passed, in-Added}
 pub loop-place-init : goal.loop-place-init
 loop-place-init g c = none_judged g.W.Workshop.meaning g.met.W.Workshop.lawful _ _ _
 
-pub judge-place-requires : goal.judge-place-requires
-judge-place-requires g c = record {
+pub judge_place-requires : goal.judge_place-requires
+judge_place-requires g c = record {
   within = judged_within g.W.Workshop.meaning g.met.W.Workshop.lawful _ _ _ _ _ _ _ _ _ c.loop-place-test.true c.requires.within c.loop-place.invariant;
   few = omega (arith, c.requires.few, c.loop-place-test.true);
 }
@@ -27,9 +27,9 @@ returns-in-Full g c =
 pub loop-place-preserved : goal.loop-place-preserved
 loop-place-preserved g c =
     let here : c.loop-place.place < g.W.Workshop.meaning.count c.args.workshop.now = omega (arith, c.requires.within, c.loop-place-test.true) in
-    elim c.match-judge-place.branch [
-      | in-Passed w ↦ judged_passed g.W.Workshop.meaning g.met.W.Workshop.lawful _ _ _ _ _ _ _ _ c.loop-place.invariant c.judge-place.new.workshop (held c.judge-place.new.cuts) _ _ here w.added-is w.all-is w.in-Passed.ensures
-      | in-Added w ↦ judged_added g.W.Workshop.meaning g.met.W.Workshop.lawful _ _ _ _ _ _ _ _ c.loop-place.invariant _ c.judge-place.new.workshop (held c.judge-place.new.cuts) _ _ here
+    elim c.match-judge_place.branch [
+      | in-Passed w ↦ judged_passed g.W.Workshop.meaning g.met.W.Workshop.lawful _ _ _ _ _ _ _ _ c.loop-place.invariant c.judge_place.new.workshop (held c.judge_place.new.cuts) _ _ here w.added-is w.all-is w.in-Passed.ensures
+      | in-Added w ↦ judged_added g.W.Workshop.meaning g.met.W.Workshop.lawful _ _ _ _ _ _ _ _ c.loop-place.invariant _ c.judge_place.new.workshop (held c.judge_place.new.cuts) _ _ here
           (omega (arith, w.added-is, w.counted-added.ensures.value)) (omega (arith, w.counted-added.ensures.value, w.counted-added.ensures.bound)) w.all-is w.in-Added.ensures
     ]
 

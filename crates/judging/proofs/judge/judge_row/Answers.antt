@@ -17,10 +17,10 @@ returns g c =
     let few : m.count w ≤ most_places = omega arith in
     let cuts = held c.args.cuts.now in
     let row = row_places c.args.row.now in
-    let o = c.judge-places.result in
-    let v = c.judge-places.new.workshop in
-    let after = held c.judge-places.new.cuts in
-    let ends = ends_at m laws w cuts row _ (m.count w) o v after c.judge-places.ensures (omega arith) in
+    let o = c.judge_places.result in
+    let v = c.judge_places.new.workshop in
+    let after = held c.judge_places.new.cuts in
+    let ends = ends_at m laws w cuts row _ (m.count w) o v after c.judge_places.ensures (omega arith) in
     record {
       ends = judge_accepted (m.count w) o (λ x. Ends m w cuts row (m.count w) x v after) few ends;
       tells = λ good. judge_accepted (m.count w) o (λ x. TellsAll m w row x v after) few (ends_tell m laws w cuts row good o v after ends);

@@ -8,8 +8,8 @@ use Rattle.judging.proofs.shrink.shrink.Goals as goal
 pub loop-job-init : goal.loop-job-init
 loop-job-init g c = search (rules, start)
 
-pub leave-out-requires : goal.leave-out-requires
-leave-out-requires g c =
+pub leave_out-requires : goal.leave_out-requires
+leave_out-requires g c =
     let m = g.W.Workshop.meaning in
     let now = c.loop-job in
     kept_below m g.met.W.Workshop.lawful c.args.place _ _ c.requires (tries_follows m g.met.W.Workshop.lawful c.args.place _ _ c.requires _ _ _ now.invariant).kept
@@ -20,8 +20,8 @@ returns-in_err-left g c =
     let got = c.in-Some.ensures in
     let fault = c.in_err-left.field-0.0 in
     let is : c.from-residual.result ≡ Err fault = search rules in
-    tries_halt g.W.Workshop.meaning c.args.place c.args.set.bits c.args.workshop.now (listed c.jobs-jobs.result) now.tried now.left now.workshop c.in-Some.job c.leave-out.new.workshop now.invariant got.0 got.1
-    fault c.leave-out.result c.from-residual.result c.in_err-left.was is c.jobs-jobs.ensures c.leave-out.ensures
+    tries_halt g.W.Workshop.meaning c.args.place c.args.set.bits c.args.workshop.now (listed c.jobs-jobs.result) now.tried now.left now.workshop c.in-Some.job c.leave_out.new.workshop now.invariant got.0 got.1
+    fault c.leave_out.result c.from-residual.result c.in_err-left.was is c.jobs-jobs.ensures c.leave_out.ensures
 
 pub loop-job-smaller : goal.loop-job-smaller
 loop-job-smaller g c = omega (arith, c.in-Some.ensures.0)
@@ -30,7 +30,7 @@ pub loop-job-preserved : goal.loop-job-preserved
 loop-job-preserved g c =
     let now = c.loop-job in
     let got = c.in-Some.ensures in
-    tries_more g.W.Workshop.meaning c.args.place c.args.set.bits c.args.workshop.now (listed c.jobs-jobs.result) now.tried now.left now.workshop c.in-Some.job c.leave-out.new.workshop now.invariant got.0 got.1 c.in_ok-left.left
+    tries_more g.W.Workshop.meaning c.args.place c.args.set.bits c.args.workshop.now (listed c.jobs-jobs.result) now.tried now.left now.workshop c.in-Some.job c.leave_out.new.workshop now.invariant got.0 got.1 c.in_ok-left.left
     c.in_ok-left.ensures
 
 pub returns : goal.returns

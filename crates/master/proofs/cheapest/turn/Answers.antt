@@ -25,13 +25,13 @@ back-requires g c =
 pub returns-then-place-places : goal.returns-then-place-places
 returns-then-place-places g c = turn_back _ c.args.tariff.now c.args.cuts.now c.args.walk.now c.requires c.back.new.self (omega arith) (omega arith) c.back.ensures
 
-pub returns-then-not-is-worth : goal.returns-then-not-is-worth
-returns-then-not-is-worth g c =
+pub returns-then-not-is_worth : goal.returns-then-not-is_worth
+returns-then-not-is_worth g c =
     let joined = g.M.Measure.joins c.args.measure.now in
     let w = c.args.walk.now in
     let total : c.join-total.result ≡ joined (get_or w.totals w.depth 0) (price_of c.args.tariff.now w.depth (next_place w)) = cc in
     turn_skip joined c.args.tariff.now c.args.cuts.now w c.requires (climbs_of g c.args.measure.now) c.skip.new.self c.join-total.result
-    total (omega arith) c.if-not-is-worth.ensures c.skip.ensures
+    total (omega arith) c.if-not-is_worth.ensures c.skip.ensures
 
 pub returns-then-job-jobs : goal.returns-then-job-jobs
 returns-then-job-jobs g c =
@@ -39,7 +39,7 @@ returns-then-job-jobs g c =
     let w = c.args.walk.now in
     let total : c.join-total.result ≡ joined (get_or w.totals w.depth 0) (price_of c.args.tariff.now w.depth (next_place w)) = cc in
     turn_deepen joined c.args.tariff.now c.args.cuts.now w c.requires c.deepen.new.self c.join-total.result
-    total (omega arith) (omega arith) c.if-not-is-worth.ensures c.deepen.ensures
+    total (omega arith) (omega arith) c.if-not-is_worth.ensures c.deepen.ensures
 
 pub returns : goal.returns
 returns g c =
@@ -47,5 +47,5 @@ returns g c =
     let w = c.args.walk.now in
     let total : c.join-total.result ≡ joined (get_or w.totals w.depth 0) (price_of c.args.tariff.now w.depth (next_place w)) = cc in
     turn_take joined c.args.tariff.now c.args.cuts.now w c.requires c.take.new.self c.join-total.result
-    total (omega arith) (omega (arith, c.requires.deep)) c.if-not-is-worth.ensures
+    total (omega arith) (omega (arith, c.requires.deep)) c.if-not-is_worth.ensures
     (subst (λ (n : ℕ). Takes w n c.join-total.result c.take.new.self) c.jobs-2.ensures c.take.ensures)

@@ -4,14 +4,14 @@ use Rattle.sheet.specs.Sheets.{placing, feed, line}
 use Rattle.sheet.proofs.Putting.{puts_then}
 use Rattle.sheet.proofs.lines.put_line.Goals as goal
 
-pub put-placing-end-requires : goal.put-placing-end-requires
+pub put_placing-end-requires : goal.put_placing-end-requires
 unfolding line
-put-placing-end-requires c = omega (arith, length-append (placing c.args.job c.args.place) feed)
+put_placing-end-requires c = omega (arith, length-append (placing c.args.job c.args.place) feed)
 
-pub put-feed-requires : goal.put-feed-requires
+pub put_feed-requires : goal.put_feed-requires
 unfolding line
-put-feed-requires c = omega (arith, length-append (placing c.args.job c.args.place) feed)
+put_feed-requires c = omega (arith, length-append (placing c.args.job c.args.place) feed)
 
 pub returns : goal.returns
 unfolding line
-returns c = puts_then c.args.buffer.now _ _ c.args.at _ _ (placing c.args.job c.args.place) feed (omega arith) c.put-placing-end.ensures c.put-feed.ensures
+returns c = puts_then c.args.buffer.now _ _ c.args.at _ _ (placing c.args.job c.args.place) feed (omega arith) c.put_placing-end.ensures c.put_feed.ensures

@@ -13,8 +13,8 @@ few_jobs row = omega (arith, row.few, length-take row.jobs row.places)
 pub loop-place-init : goal.loop-place-init
 loop-place-init c = search (rules, lined_none)
 
-pub put-line-end-requires : goal.put-line-end-requires
-put-line-end-requires c =
+pub put_line-end-requires : goal.put_line-end-requires
+put_line-end-requires c =
     let row = c.args.row.now in
     let l = c.loop-place in
     let place = c.in-Some.place in
@@ -44,7 +44,7 @@ loop-place-preserved c =
     let given : slice_get (row_places row) l.job ≡ Some place = cc in
     let small : l.job < 100 = omega (arith, job_within (row_places row) l.job place given, few_jobs row) in
     let byte : place < 256 = omega arith in
-    lined_more c.args.buffer.now c.args.at (row_places row) l.job l.buffer l.end place c.put-line-end.new.buffer c.put-line-end.result (omega arith) small byte given l.invariant c.put-line-end.ensures
+    lined_more c.args.buffer.now c.args.at (row_places row) l.job l.buffer l.end place c.put_line-end.new.buffer c.put_line-end.result (omega arith) small byte given l.invariant c.put_line-end.ensures
 
 pub returns : goal.returns
 returns c =

@@ -7,4 +7,4 @@ returns c =
     let part = c.args.part.now in
     let at = c.args.at in
     let size : (at + length part) - at ≡ length part = omega arith in
-    puts_slice c.args.buffer.now part c.copy-from-slice.new.self at _ size c.copy-from-slice.ensures.after
+    puts_slice c.args.buffer.now part c.copy_from_slice.new.self at _ size c.copy_from_slice.ensures.after

@@ -11,10 +11,10 @@ slice s n e = take_rest s.digits s.from ∙ e
 
 pub put-requires : goal.put-requires
 put-requires c =
-    let made = c.numeral-of-numeral in
+    let made = c.numeral_of-numeral in
     subst (Room c.args.buffer.now c.args.at) (sym (slice made.result c.args.n made.ensures.value)) c.requires
 
 pub returns : goal.returns
 returns c =
-    let made = c.numeral-of-numeral in
+    let made = c.numeral_of-numeral in
     subst (λ part. Puts c.args.buffer.now c.args.at part c.put.new.buffer c.put.result) (slice made.result c.args.n made.ensures.value) c.put.ensures

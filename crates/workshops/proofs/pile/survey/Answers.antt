@@ -7,15 +7,15 @@ pub returns : goal.returns
 returns g c =
     let one = g.F.Facility.family in
     let two = g.G.Facility.family in
-    let run : Surveyed one two c.args.first c.args.second c.args.amount c.args.place c.args.sets.now c.ask-all.result = record {
-      made = c.pile-up-pile.result;
+    let run : Surveyed one two c.args.first c.args.second c.args.amount c.args.place c.args.sets.now c.ask_all.result = record {
+      made = c.pile_up-pile.result;
       funded = c.grant.new.self;
-      asked = c.ask-all.new.workshop;
-      making = c.pile-up-pile.ensures;
+      asked = c.ask_all.new.workshop;
+      making = c.pile_up-pile.ensures;
       granting = search rules;
-      asking = c.ask-all.ensures.tally;
+      asking = c.ask_all.ensures.tally;
     } in
     record {
       run = run;
-      exact = surveyed one two c.ask-all.ensures.steady c.args.first c.args.second c.args.amount c.args.place c.args.sets.now c.ask-all.result run;
+      exact = surveyed one two c.ask_all.ensures.steady c.args.first c.args.second c.args.amount c.args.place c.args.sets.now c.ask_all.result run;
     }

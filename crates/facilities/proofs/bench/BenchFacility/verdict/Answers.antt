@@ -7,5 +7,5 @@ pub returns : goal.returns
 returns c =
     let small : bits c.args.set < 2 ^ width = omega arith in
     let e = c.new-line.ensures in
-    let known = decides c.new-line.result.batch c.args.self.now.rows c.args.set e.rows e.set small c.is-some.result c.first.result _ c.is-some.ensures c.first.ensures.answer in
+    let known = decides c.new-line.result.batch c.args.self.now.rows c.args.set e.rows e.set small c.is_some.result c.first.result _ c.is_some.ensures c.first.ensures.answer in
     search rules

@@ -5,7 +5,7 @@ use Rattle.master.specs.Cuts.Adds.{covered}
 use Rattle.master.specs.Cuts.Leaves.{none}
 use Rattle.master.proofs.Adding.{no_cut, Sifts, sift_goes, sift_stays, sift_full, sift_put, sift_apart, sift_placed, sifts_at, cut_accepted, adds_ruled}
 use Rattle.master.proofs.table.CutTable.add.Goals as goal
-use Rattle.master.proofs.table.CutTable.add.Goals.{then-not-lies-within, else-not-lies-within}
+use Rattle.master.proofs.table.CutTable.add.Goals.{then-not-lies_within, else-not-lies_within}
 
 pub returns-then-covers : goal.returns-then-covers
 returns-then-covers c =
@@ -36,23 +36,23 @@ loop-i-preserved c =
     let lt : i < room = omega (arith, c.args.self.now.few, c.loop-i-test.true) in
     let in_table : i < length cuts = omega (arith, c.args.self.now.wide) in
     let d = get_or cuts i no_cut in
-    elim c.if-not-lies-within.branch [
-      | then-not-lies-within w ↦
+    elim c.if-not-lies_within.branch [
+      | then-not-lies_within w ↦
           let out : Within new d → ⊥ = search rules in
           sifts_at new cuts (i + 1) w.left-is w.len-is (sift_stays new cuts i c.loop-i.left c.loop-i.len in_table lt out c.loop-i.invariant)
-      | else-not-lies-within w ↦
+      | else-not-lies_within w ↦
           let held : Within new d = search rules in
           sifts_at new cuts (i + 1) w.left-is w.len-is (sift_goes new cuts i c.loop-i.left c.loop-i.len in_table held c.loop-i.invariant)
     ]
 
-pub returns-then-not-has-room : goal.returns-then-not-has-room
-returns-then-not-has-room c =
+pub returns-then-not-has_room : goal.returns-then-not-has_room
+returns-then-not-has_room c =
     let near : c.args.place < most_places = omega arith in
     let t = c.args.self.now in
     let new = cut_of c.args.place c.args.set in
     let over : c.loop-i.i ≡ t.len = omega arith in
     let sifts = subst (λ (n : ℕ). Sifts new t.cuts n c.loop-i.left c.loop-i.len) over c.loop-i.invariant in
-    let all : c.loop-i.len ≡ room = omega (arith, c.loop-i.invariant.few, t.few, c.if-not-has-room.ensures) in
+    let all : c.loop-i.len ≡ room = omega (arith, c.loop-i.invariant.few, t.few, c.if-not-has_room.ensures) in
     record {
       list = cut_accepted c.args.place _ _ near (sift_full new t.cuts t.len c.loop-i.left c.loop-i.len t.few t.wide all c.if-covers.ensures sifts);
       meaning = tt;
@@ -63,7 +63,7 @@ pub offset_bounds-left-len-2 : goal.offset_bounds-left-len-2
 offset_bounds-left-len-2 c = omega (arith, c.loop-i.invariant.few, c.args.self.now.few, c.loop-i.auto.i-end)
 
 pub bounds-left-len-2 : goal.bounds-left-len-2
-bounds-left-len-2 c = omega (arith, c.loop-i.invariant.few, c.args.self.now.few, c.loop-i.auto.i-end, c.if-not-has-room.ensures)
+bounds-left-len-2 c = omega (arith, c.loop-i.invariant.few, c.args.self.now.few, c.loop-i.auto.i-end, c.if-not-has_room.ensures)
 
 pub overflow_add-self : goal.overflow_add-self
 overflow_add-self c = omega (arith, c.loop-i.invariant.few, c.args.self.now.few, c.loop-i.auto.i-end)
@@ -74,7 +74,7 @@ invariant_of-self c =
     let t = c.args.self.now in
     let new = cut_of c.args.place c.args.set in
     let over : c.loop-i.i ≡ t.len = omega arith in
-    let lt : c.loop-i.len < room = omega (arith, c.loop-i.invariant.few, t.few, c.if-not-has-room.ensures) in
+    let lt : c.loop-i.len < room = omega (arith, c.loop-i.invariant.few, t.few, c.if-not-has_room.ensures) in
     let sifts = subst (λ (n : ℕ). Sifts new t.cuts n c.loop-i.left c.loop-i.len) over c.loop-i.invariant in (
       length-set c.loop-i.left c.loop-i.len new ∙ c.loop-i.invariant.long,
       (
@@ -92,6 +92,6 @@ returns c =
     let t = c.args.self.now in
     let new = cut_of c.args.place c.args.set in
     let over : c.loop-i.i ≡ t.len = omega arith in
-    let lt : c.loop-i.len < room = omega (arith, c.loop-i.invariant.few, t.few, c.if-not-has-room.ensures) in
+    let lt : c.loop-i.len < room = omega (arith, c.loop-i.invariant.few, t.few, c.if-not-has_room.ensures) in
     let adds = sift_put new t.cuts t.len c.loop-i.left c.loop-i.len lt c.if-covers.ensures (subst (λ (n : ℕ). Sifts new t.cuts n c.loop-i.left c.loop-i.len) over c.loop-i.invariant) in
     record { list = cut_accepted c.args.place _ _ near adds; meaning = adds_ruled _ _ _ _ adds; same = tt }

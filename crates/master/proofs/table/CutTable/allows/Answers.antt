@@ -10,7 +10,7 @@ pub returns-in-Ok : goal.returns-in-Ok
 returns-in-Ok c =
     let job = c.args.job in
     let place = c.args.place in
-    let old = c.args.so-far in
+    let old = c.args.so_far in
     let new = c.in-Ok.set in
     let taken = with_taken job new (λ s. (j : ℕ) → Same (Has (bits s) j) (Has (bits old) j ⊎ (j ≡ job))) c.in-Ok.ensures.members in
     let covers : Exactly c.covers.result (Covers (cut_of place new) (held c.args.self.now)) = search rules in

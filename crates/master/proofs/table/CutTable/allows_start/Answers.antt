@@ -13,8 +13,8 @@ loop-cut-preserved c =
     looked_more (λ x. Breaks [] x → ⊥) c.held-cut-items.result.now (held c.args.self.now) c.held-cut-items.ensures c.loop-cut.cut-index
     c.loop-cut-test.true (λ b. out (none_breaks d (bits c.empty.result) b)) c.loop-cut.invariant
 
-pub returns-then-is-part-of : goal.returns-then-is-part-of
-returns-then-is-part-of c = λ ok.
+pub returns-then-is_part_of : goal.returns-then-is_part_of
+returns-then-is_part_of c = λ ok.
     let d = get_or c.held-cut-items.result.now c.loop-cut.cut-index no_cut in
     let found : Part (bits d.set) (bits c.empty.result) = search rules in
     looked_at (λ x. Breaks [] x → ⊥) c.held-cut-items.result.now (held c.args.self.now) c.held-cut-items.ensures c.loop-cut.cut-index

@@ -12,8 +12,8 @@ loop-cut-preserved c =
     looked_more (λ d. Within d c.args.new → ⊥) c.held-cut-items.result.now (held c.args.self.now) c.held-cut-items.ensures c.loop-cut.cut-index
     c.loop-cut-test.true out c.loop-cut.invariant
 
-pub returns-then-lies-within : goal.returns-then-lies-within
-returns-then-lies-within c =
+pub returns-then-lies_within : goal.returns-then-lies_within
+returns-then-lies_within c =
     let found : Within (get_or c.held-cut-items.result.now c.loop-cut.cut-index no_cut) c.args.new = search rules in
     subst (λ (cs : List Cut). Covers c.args.new cs) c.held-cut-items.ensures
     (covered_at c.args.new c.held-cut-items.result.now c.loop-cut.cut-index c.loop-cut-test.true found)

@@ -14,16 +14,16 @@ returns-in_err-tariff g c =
     (Bar c.args.job c.args.place c.args.barred) c.in_err-tariff.field-0.0 (answered_err _ _ _ c.in_err-tariff.ensures))
     refl)
 
-pub returns-in_err-set-bar : goal.returns-in_err-set-bar
-returns-in_err-set-bar g c =
-    let p = err_from_is_err_and c.from-residual-in_err-set-bar.result c.from-residual-in_err-set-bar.ensures.1 in
+pub returns-in_err-set_bar : goal.returns-in_err-set_bar
+returns-in_err-set_bar g c =
+    let p = err_from_is_err_and c.from-residual-in_err-set_bar.result c.from-residual-in_err-set_bar.ensures.1 in
     let old = c.args.self.now in
     let t = c.in_ok-tariff.tariff in
     let fit = answered_ok _ _ _ c.in_ok-tariff.ensures in
     rw (p.1, p.2) (called g.W.Workshop.meaning g.J.Measure.joins g.met.W.Workshop.lawful
-    (bar_refused_step g.W.Workshop.meaning g.J.Measure.joins (state old) t c.args.job c.args.place c.args.barred c.in_err-set-bar.field-0.0
+    (bar_refused_step g.W.Workshop.meaning g.J.Measure.joins (state old) t c.args.job c.args.place c.args.barred c.in_err-set_bar.field-0.0
     fit.0 (sized_to g.W.Workshop.meaning g.J.Measure.joins (state old) old.tariff t refl refl fit.1)
-    (answered_err _ _ _ c.in_err-set-bar.ensures.set))
+    (answered_err _ _ _ c.in_err-set_bar.ensures.set))
     refl)
 
 pub returns : goal.returns
@@ -31,8 +31,8 @@ returns g c =
     let old = c.args.self.now in
     let t = c.in_ok-tariff.tariff in
     let fit = answered_ok _ _ _ c.in_ok-tariff.ensures in
-    let set = answered_ok _ _ _ c.in_ok-set-bar.ensures.set in
+    let set = answered_ok _ _ _ c.in_ok-set_bar.ensures.set in
     called g.W.Workshop.meaning g.J.Measure.joins g.met.W.Workshop.lawful
-    (bar_step g.W.Workshop.meaning g.J.Measure.joins (state old) t c.set-bar.new.self c.args.job c.args.place c.args.barred
+    (bar_step g.W.Workshop.meaning g.J.Measure.joins (state old) t c.set_bar.new.self c.args.job c.args.place c.args.barred
     fit.0 (sized_to g.W.Workshop.meaning g.J.Measure.joins (state old) old.tariff t refl refl fit.1) set.0 set.1)
     tt

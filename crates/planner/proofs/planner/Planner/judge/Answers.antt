@@ -16,11 +16,11 @@ returns-in-Some g c =
     (idle_step g.W.Workshop.meaning g.J.Measure.joins (state c.args.self.now) (Judge (row_places x.row) x.cost) c.in-Some.refusal (sym c.in-Some.ensures))
     refl
 
-pub returns-then-not-is-pending : goal.returns-then-not-is-pending
-returns-then-not-is-pending g c =
+pub returns-then-not-is_pending : goal.returns-then-not-is_pending
+returns-then-not-is_pending g c =
     let x = c.args.proposal in
     called g.W.Workshop.meaning g.J.Measure.joins g.met.W.Workshop.lawful
-    (unknown_step g.W.Workshop.meaning g.J.Measure.joins (state c.args.self.now) (row_places x.row) x.cost (sym c.in_default.ensures) c.if-not-is-pending.ensures)
+    (unknown_step g.W.Workshop.meaning g.J.Measure.joins (state c.args.self.now) (row_places x.row) x.cost (sym c.in_default.ensures) c.if-not-is_pending.ensures)
     refl
 
 pub returns : goal.returns
@@ -28,12 +28,12 @@ returns g c =
     let m = g.W.Workshop.meaning in
     let old = c.args.self.now in
     let x = c.args.proposal in
-    let v = c.judge-row.new.workshop in
-    let cuts = held c.judge-row.new.cuts in
+    let v = c.judge_row.new.workshop in
+    let cuts = held c.judge_row.new.cuts in
     let count = m.count old.workshop in
     let ends = answered_ok (judge_refusal count) c.in_ok-outcome.outcome
     (λ o. Ends m old.workshop (held old.cuts) (row_places x.row) count o v cuts) c.in_ok-outcome.ensures.ends in
     called m g.J.Measure.joins g.met.W.Workshop.lawful
     (judge_step m g.J.Measure.joins (state old) (row_places x.row) x.cost c.in_ok-outcome.outcome v cuts
-    (judging (Ok c.concluded.result)) c.concluded.ensures (sym c.in_default.ensures) c.if-not-is-pending.ensures ends.1)
+    (judging (Ok c.concluded.result)) c.concluded.ensures (sym c.in_default.ensures) c.if-not-is_pending.ensures ends.1)
     tt

@@ -14,16 +14,16 @@ returns-in_err-tariff g c =
     (Price c.args.job c.args.place c.args.amount) c.in_err-tariff.field-0.0 (answered_err _ _ _ c.in_err-tariff.ensures))
     refl)
 
-pub returns-in_err-set-price : goal.returns-in_err-set-price
-returns-in_err-set-price g c =
-    let p = err_from_is_err_and c.from-residual-in_err-set-price.result c.from-residual-in_err-set-price.ensures.1 in
+pub returns-in_err-set_price : goal.returns-in_err-set_price
+returns-in_err-set_price g c =
+    let p = err_from_is_err_and c.from-residual-in_err-set_price.result c.from-residual-in_err-set_price.ensures.1 in
     let old = c.args.self.now in
     let t = c.in_ok-tariff.tariff in
     let fit = answered_ok _ _ _ c.in_ok-tariff.ensures in
     rw (p.1, p.2) (called g.W.Workshop.meaning g.J.Measure.joins g.met.W.Workshop.lawful
-    (price_refused_step g.W.Workshop.meaning g.J.Measure.joins (state old) t c.args.job c.args.place c.args.amount c.in_err-set-price.field-0.0
+    (price_refused_step g.W.Workshop.meaning g.J.Measure.joins (state old) t c.args.job c.args.place c.args.amount c.in_err-set_price.field-0.0
     fit.0 (sized_to g.W.Workshop.meaning g.J.Measure.joins (state old) old.tariff t refl refl fit.1)
-    (answered_err _ _ _ c.in_err-set-price.ensures.set))
+    (answered_err _ _ _ c.in_err-set_price.ensures.set))
     refl)
 
 pub returns : goal.returns
@@ -31,8 +31,8 @@ returns g c =
     let old = c.args.self.now in
     let t = c.in_ok-tariff.tariff in
     let fit = answered_ok _ _ _ c.in_ok-tariff.ensures in
-    let set = answered_ok _ _ _ c.in_ok-set-price.ensures.set in
+    let set = answered_ok _ _ _ c.in_ok-set_price.ensures.set in
     called g.W.Workshop.meaning g.J.Measure.joins g.met.W.Workshop.lawful
-    (price_step g.W.Workshop.meaning g.J.Measure.joins (state old) t c.set-price.new.self c.args.job c.args.place c.args.amount
+    (price_step g.W.Workshop.meaning g.J.Measure.joins (state old) t c.set_price.new.self c.args.job c.args.place c.args.amount
     fit.0 (sized_to g.W.Workshop.meaning g.J.Measure.joins (state old) old.tariff t refl refl fit.1) set.0 set.1)
     tt

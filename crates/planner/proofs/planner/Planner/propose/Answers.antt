@@ -15,8 +15,8 @@ returns-in_err-tariff g c =
     Propose c.in_err-tariff.field-0.0 (answered_err _ _ _ c.in_err-tariff.ensures))
     refl)
 
-pub returns-then-self-ge-LAST-ROUND : goal.returns-then-self-ge-LAST-ROUND
-returns-then-self-ge-LAST-ROUND g c =
+pub returns-then-self-ge-LAST_ROUND : goal.returns-then-self-ge-LAST_ROUND
+returns-then-self-ge-LAST_ROUND g c =
     let old = c.args.self.now in
     let worn : old.round ≡ last_round = omega arith in
     called g.W.Workshop.meaning g.J.Measure.joins g.met.W.Workshop.lawful

@@ -8,8 +8,8 @@ use Rattle.facilities.specs.Usages.{table}
 use Rattle.facilities.specs.TimetablesLemmas.{level_row, ends_in_day, allowed_level, no_row, fits_still, there, undone}
 use Rattle.facilities.proofs.stand.timetable.calls.TimetableTrial.undo.Goals as goal
 
-pub row-at-requires : goal.row-at-requires
-row-at-requires c =
+pub row_at-requires : goal.row_at-requires
+row_at-requires c =
     let t = c.args.self.now in
     let rows = row_list t.demand.rows in
     let js = jobs_of (bits t.demand.set) in
@@ -20,14 +20,14 @@ row-at-requires c =
       within = subst (λ n. n < length js) (sym c.len.ensures.value) (allowed_level rows t.demand.supply js xs c.in-Some.start s.stands);
     }
 
-pub returns-in_default-row-at : goal.returns-in_default-row-at
-returns-in_default-row-at c =
+pub returns-in_default-row_at : goal.returns-in_default-row_at
+returns-in_default-row_at c =
     let t = c.args.self.now in
     let rows = row_list t.demand.rows in
     let js = jobs_of (bits t.demand.set) in
     let xs = chosen c.pop.new.self in
     let s = subst (λ zs. Sound rows t.demand.supply js (listed t.jobs) zs (table t.usage)) c.in-Some.ensures c.requires.sound in
-    let e = level_row rows js xs c.len.result None c.len.ensures.value c.in_default-row-at.ensures in
+    let e = level_row rows js xs c.len.result None c.len.ensures.value c.in_default-row_at.ensures in
     absurd (no_row rows t.demand.supply js xs c.in-Some.start e s.stands)
 
 pub free-requires : goal.free-requires
@@ -37,10 +37,10 @@ free-requires c =
     let js = jobs_of (bits t.demand.set) in
     let xs = chosen c.pop.new.self in
     let x = c.in-Some.start in
-    let r = c.in-Some-row-at.row in
+    let r = c.in-Some-row_at.row in
     let s = subst (λ zs. Sound rows t.demand.supply js (listed t.jobs) zs (table t.usage)) c.in-Some.ensures c.requires.sound in
     let l = allowed_level rows t.demand.supply js xs x s.stands in
-    let e = level_row rows js xs c.len.result (Some r) c.len.ensures.value c.in-Some-row-at.ensures in
+    let e = level_row rows js xs c.len.result (Some r) c.len.ensures.value c.in-Some-row_at.ensures in
     record {
       within = ends_in_day r x (fits_still rows t.demand.supply js xs x l r e (listed t.jobs) (table t.usage) s);
       there = there rows t.demand.supply js xs x l r e (listed t.jobs) (table t.usage) s;
@@ -53,10 +53,10 @@ returns c =
     let js = jobs_of (bits t.demand.set) in
     let xs = chosen c.pop.new.self in
     let x = c.in-Some.start in
-    let r = c.in-Some-row-at.row in
+    let r = c.in-Some-row_at.row in
     let s = subst (λ zs. Sound rows t.demand.supply js (listed t.jobs) zs (table t.usage)) c.in-Some.ensures c.requires.sound in
     let l = allowed_level rows t.demand.supply js xs x s.stands in
-    let e = level_row rows js xs c.len.result (Some r) c.len.ensures.value c.in-Some-row-at.ensures in
+    let e = level_row rows js xs c.len.result (Some r) c.len.ensures.value c.in-Some-row_at.ensures in
     record {
       same = refl;
       sound = undone rows t.demand.supply js xs x l r e (listed t.jobs) (table t.usage) s (table c.free.new.self) c.free.ensures;
