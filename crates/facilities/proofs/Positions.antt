@@ -1,8 +1,8 @@
 -- Where a depth-first search stands: the choices taken and the next one to try; what it has passed, and how much is left.
-use Rattle.std.proofs.Common.{◌≡◌, ℕ, zero, suc, ◌+◌, ◌-◌, ◌*◌, ◌^◌, ◌<◌, ◌≤◌, ◌⊎◌, List, [], ◌∷◌, ◌++◌, length, sym, refl, ap, ◌∙◌, subst, inl, inr, ⊎_elim, suc-mul, mul_comm, add-mul, pow-suc, mul-add, arith}
+use Rattle.std.proofs.Common.{◌≡◌, ℕ, zero, suc, ◌+◌, ◌-◌, ◌*◌, ◌^◌, ◌<◌, ◌≤◌, ◌⊎◌, List, [], ◌∷◌, ◌++◌, length, refl, ap, ◌∙◌, inl, inr, ⊎_elim, suc-mul, mul_comm, add-mul, pow-suc, mul-add, arith}
 use native.Mathlib.Nat.{one-le-pow}
 use Rattle.std.proofs.lemmas.Bool.{cases_lt}
-use Rattle.facilities.specs.Trials.{Within, Solves, Before, First}
+use Rattle.facilities.specs.Trials.{Within, Before}
 
 -- ys stands before every list that begins with p and goes on with c or more
 abbrev pub Passed : List ℕ → ℕ → List ℕ → Type 0

@@ -1,7 +1,7 @@
 -- What a depth-first search knows where it stands, and how each of its turns keeps that.
-use Rattle.std.proofs.Common.{◌≡◌, ℕ, suc, ◌+◌, ◌<◌, ◌≤◌, true, false, ◌⊎◌, List, [], ◌∷◌, ◌++◌, length, sym, refl, ap, ◌∙◌, subst, inl, inr, ⊎_elim, append_assoc, arith, length-append}
+use Rattle.std.proofs.Common.{◌≡◌, ℕ, ◌+◌, ◌<◌, ◌≤◌, true, false, List, [], ◌∷◌, ◌++◌, length, sym, ap, ◌∙◌, subst, ⊎_elim, append_assoc, arith, length-append}
 use Rattle.std.proofs.lemmas.List.{same_from_push}
-use Rattle.facilities.specs.Trials.{Took, Gave, Within, Solves, Before, First}
+use Rattle.facilities.specs.Trials.{Took, Gave, Within, Solves, First}
 use Rattle.facilities.proofs.Positions.{Passed, passed_none, passed_all, passed_down, passed_next, passed_front, passed_back, before_passed, within_push, within_front, within_last, left, left_down, left_next, left_up}
 
 -- the choices p are taken, `next` is to be tried, and no solution stands before that

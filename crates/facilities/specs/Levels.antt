@@ -1,5 +1,5 @@
 -- Jobs that are given choices one after the other, as a trial does. Only trials speak of it.
-use Rattle.std.specs.Prelude.{◌≡◌, ℕ, ◌+◌, cond, List, [], ◌∷◌, ◌==◌}
+use Rattle.std.specs.Prelude.{ℕ, ◌+◌, cond, List, [], ◌∷◌, ◌==◌}
 
 -- the first of the jobs js have the choices xs, and each fits
 abbrev pub Given : (fit : ℕ → ℕ → Type 0) → (js xs : List ℕ) → Type 0

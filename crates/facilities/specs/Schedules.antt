@@ -1,5 +1,5 @@
 -- A bench can schedule a set exactly where its jobs can be lined up.
-use Rattle.std.specs.Prelude.{◌≡◌, ℕ, zero, suc, ◌+◌, ◌^◌, ◌<◌, ◌≤◌, max, cond, ◌⊎◌, List, [], ◌∷◌, length, Some, None, Option, ◌==◌, ◌≢◌, refl}
+use Rattle.std.specs.Prelude.{◌≡◌, ℕ, zero, suc, ◌^◌, ◌<◌, ◌≤◌, cond, ◌⊎◌, List, [], ◌∷◌, length, Some, None, Option, ◌==◌, ◌≢◌, refl}
 use Rattle.std.proofs.Common.{sym, ap, subst, ◌∙◌, inl, inr, ⊎_elim, arith}
 use Rattle.std.proofs.lemmas.Bool.{cases_eq, cases_lt, eq-eqb, ne_eqb, cond-true, cond-false}
 use Rattle.jobs.specs.Sets.{width, Has, Part, without, jobs_of}
@@ -7,7 +7,7 @@ use Rattle.jobs.proofs.Bits.{bit_fits}
 use Rattle.jobs.proofs.Members.{has_or_not, without_members}
 use Rattle.facilities.specs.declared.rows.Window.{Window}
 use Rattle.facilities.specs.Benches.{MayStart, end, Schedule, Schedulable}
-use Rattle.facilities.specs.Lines.{Next, Lined}
+use Rattle.facilities.specs.Lines.{Lined}
 use Rattle.facilities.specs.Orders.{earliest, end_from, start_from}
 use Rattle.facilities.specs.Rows.{row}
 use Rattle.facilities.specs.Trials.{Within}

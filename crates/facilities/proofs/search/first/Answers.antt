@@ -1,4 +1,4 @@
-use Rattle.std.proofs.Common.{◌≡◌, ◌<◌, ◌≤◌, [], ◌∷◌, length, ap, ◌∙◌, arith, length-append}
+use Rattle.std.proofs.Common.{[], ◌∷◌, length, ap, ◌∙◌, arith, length-append}
 use Rattle.facilities.specs.Choices.{chosen}
 use Rattle.facilities.proofs.Firsts.{one_first}
 use Rattle.facilities.proofs.Turns.{took_down, took_none, given_back, less_down, less_next, less_up, last_within, all_found, none_found}

@@ -1,4 +1,4 @@
-use Rattle.std.proofs.Common.{◌≡◌, ◌≤◌, length}
+use Rattle.std.proofs.Common.{◌≡◌}
 use Rattle.facilities.specs.Choices.{chosen}
 use Rattle.facilities.proofs.Positions.{left}
 use Rattle.facilities.proofs.Turns.{Searched}

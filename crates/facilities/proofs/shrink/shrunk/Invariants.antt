@@ -1,6 +1,6 @@
 use Rattle.std.proofs.Common.{◌-◌, ◌≤◌, length, take}
 use Rattle.jobs.specs.Lists.{listed}
-use Rattle.jobs.specs.Sets.{bits, jobs_of}
+use Rattle.jobs.specs.Sets.{bits}
 use Rattle.facilities.specs.Shrinking.{Shrinks}
 use Rattle.facilities.proofs.shrink.shrunk.Given as goal
 

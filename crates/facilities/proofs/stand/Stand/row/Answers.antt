@@ -15,7 +15,7 @@ invariant_of-self c =
     let range : in_range s.supply ≡ true = search rules in
     let put : row_list c.put.new.self ≡ set (row_list s.rows) a.job (Some row) = search rules in
     let fed = fed_row s.supply a.release a.takes a.due a.draw row range made.0 made.1 in
-    (subst (λ (rows : List (Option StandRow)). Overdrawn s.supply rows → ⊥) (sym put) (fed_set s.supply (row_list s.rows) a.job row s.fed fed), tt)
+    record { fed = subst (λ (rows : List (Option StandRow)). Overdrawn s.supply rows → ⊥) (sym put) (fed_set s.supply (row_list s.rows) a.job row s.fed fed) }
 
 pub returns : goal.returns
 returns c =

@@ -7,4 +7,8 @@ use Rattle.master.proofs.offer.Offer.with_price.Goals as goal
 pub invariant_of-result : goal.invariant_of-result
 invariant_of-result c =
     let o = c.args.self in
-    (length-set o.prices c.args.place c.args.amount ∙ o.priced, (o.marked, (low_set o.prices c.args.place c.args.amount top_price c.requires.amount o.low, tt)))
+    record {
+      priced = length-set o.prices c.args.place c.args.amount ∙ o.priced;
+      marked = o.marked;
+      low = low_set o.prices c.args.place c.args.amount top_price c.requires.amount o.low;
+    }

@@ -1,7 +1,6 @@
 use Rattle.std.proofs.Common.{◌≡◌, List, length, take, Decides, ap, ◌∙◌, arith, rules}
 use Rattle.std.proofs.lemmas.Slice.Eq.{slice_eq-Decides}
 use Rattle.std.proofs.lemmas.List.{length-take-le}
-use Rattle.std.specs.Cmp.Lexicographic.{Matches}
 use Rattle.jobs.specs.Sets.{width}
 use Rattle.master.proofs.Giving.{same_places, exactly_decides}
 use Rattle.master.proofs.row.Row.same.Goals as goal
@@ -19,7 +18,6 @@ pub returns : goal.returns
 returns c =
     let a = c.args.self.now in
     let b = c.args.other.now in
-    let told : Matches (λ x y t. Decides t (x ≡ y)) a.places b.places c.eq.result = search rules in
-    exactly_decides c.eq.result (slice_eq-Decides Decides-eqb a.places b.places c.eq.result told)
+    exactly_decides c.eq.result (slice_eq-Decides Decides-eqb a.places b.places c.eq.result c.eq.ensures)
     (λ e. ap (λ (xs : List _). take a.jobs xs) e ∙ ap (λ n. take n b.places) c.if-self-other.false)
     (λ e. same_places width a.jobs b.jobs a.places b.places a.wide b.wide c.if-self-other.false a.spare b.spare e)

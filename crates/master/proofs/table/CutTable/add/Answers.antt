@@ -75,16 +75,13 @@ invariant_of-self c =
     let new = cut_of c.args.place c.args.set in
     let over : c.loop-i.i ≡ t.len = omega arith in
     let lt : c.loop-i.len < room = omega (arith, c.loop-i.invariant.few, t.few, c.if-not-has_room.ensures) in
-    let sifts = subst (λ (n : ℕ). Sifts new t.cuts n c.loop-i.left c.loop-i.len) over c.loop-i.invariant in (
-      length-set c.loop-i.left c.loop-i.len new ∙ c.loop-i.invariant.long,
-      (
-        omega arith,
-        (
-          sift_apart new t.cuts t.len c.loop-i.left c.loop-i.len lt t.apart c.if-covers.ensures sifts,
-          (sift_placed new t.cuts t.len c.loop-i.left c.loop-i.len lt near t.placed sifts, tt),
-        ),
-      ),
-    )
+    let sifts = subst (λ (n : ℕ). Sifts new t.cuts n c.loop-i.left c.loop-i.len) over c.loop-i.invariant in
+    record {
+      wide = length-set c.loop-i.left c.loop-i.len new ∙ c.loop-i.invariant.long;
+      few = omega arith;
+      apart = sift_apart new t.cuts t.len c.loop-i.left c.loop-i.len lt t.apart c.if-covers.ensures sifts;
+      placed = sift_placed new t.cuts t.len c.loop-i.left c.loop-i.len lt near t.placed sifts;
+    }
 
 pub returns : goal.returns
 returns c =

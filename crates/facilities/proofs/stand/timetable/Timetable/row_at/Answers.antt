@@ -1,4 +1,4 @@
-use Rattle.std.proofs.Common.{◌≡◌, ℕ, ◌<◌, get_or, ap, ◌∙◌, arith, lit<}
+use Rattle.std.proofs.Common.{◌≡◌, ◌<◌, get_or, ap, ◌∙◌, arith, lit<}
 use Rattle.std.proofs.ByRecursion.{All-get_or}
 use Rattle.jobs.specs.Sets.{bits, width, jobs_of}
 use Rattle.facilities.specs.Listed.{jobs_below}

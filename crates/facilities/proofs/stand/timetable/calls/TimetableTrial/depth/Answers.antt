@@ -1,4 +1,4 @@
-use Rattle.std.proofs.Common.{◌≡◌, length, ap, arith}
+use Rattle.std.proofs.Common.{length, ap, arith}
 use Rattle.jobs.specs.Sets.{bits}
 use Rattle.jobs.proofs.Lists.{few_jobs}
 use Rattle.facilities.proofs.stand.timetable.calls.TimetableTrial.depth.Goals as goal

@@ -1,4 +1,4 @@
-use Rattle.std.proofs.Common.{◌≡◌, ◌<◌, Some, None, refl, arith}
+use Rattle.std.proofs.Common.{Some, None, refl, arith}
 use Rattle.jobs.specs.Lists.{listed}
 use Rattle.jobs.specs.Sets.{bits, jobs_of}
 use Rattle.jobs.proofs.Lists.{few_jobs}

@@ -1,4 +1,4 @@
-use Rattle.std.proofs.Common.{◌≡◌, ◌<◌, [], ◌∷◌, ◌++◌, length, Some, None, sym, refl, subst, arith}
+use Rattle.std.proofs.Common.{◌<◌, length, Some, None, sym, refl, subst}
 use Rattle.jobs.specs.Lists.{listed}
 use Rattle.jobs.specs.Sets.{bits, jobs_of}
 use Rattle.facilities.specs.Choices.{chosen}
