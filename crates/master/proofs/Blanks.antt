@@ -1,5 +1,5 @@
 -- A tariff with nothing set.
-use Rattle.std.proofs.Common.{◌≡◌, ℕ, zero, suc, List, [], ◌∷◌, get_or, replicate, refl, ap, ◌∙◌}
+use Rattle.std.proofs.Common.{◌≡◌, ℕ, zero, suc, get_or, replicate, refl}
 use Rattle.std.specs.List.{slice_get}
 use Rattle.master.specs.Tariffs.{from_offer}
 use Rattle.master.specs.declared.offer.Offer.{Offer}

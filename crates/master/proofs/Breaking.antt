@@ -1,5 +1,5 @@
 -- Which cuts a row breaks, and which with one job more.
-use Rattle.std.proofs.Common.{◌≡◌, ℕ, zero, suc, ◌+◌, ◌<◌, ◌≤◌, Bool, true, false, cond, not, ltb, ◌≢◌, ◌⊎◌, List, [], ◌∷◌, ◌++◌, length, get_or, take, Some, None, Ok, sym, refl, ap, ◌∙◌, subst, inl, inr, ⊎_elim, arith, ltb-true}
+use Rattle.std.proofs.Common.{◌≡◌, ℕ, ◌+◌, ◌<◌, ◌≤◌, Bool, true, false, not, ltb, ◌≢◌, ◌⊎◌, List, [], ◌∷◌, ◌++◌, length, get_or, take, None, Ok, sym, refl, ap, subst, ⊎_elim, arith, ltb-true}
 use Rattle.std.proofs.ByRecursion.{All-more, All-get_or, All-weaker}
 use Rattle.std.proofs.lemmas.List.{take_all}
 use Rattle.std.proofs.lemmas.Bool.{cases_eq}
@@ -14,7 +14,7 @@ use Rattle.master.specs.Cuts.Covers.{here, there}
 use Rattle.master.specs.Rows.{Gives, Group}
 use Rattle.master.specs.declared.cut.Cut.{Cut}
 use Rattle.master.proofs.Adding.{no_cut}
-use Rattle.master.proofs.Giving.{gives_still, gives_push, group_more}
+use Rattle.master.proofs.Giving.{gives_push, group_more}
 
 -- a loop over the cuts: one more looked at, all looked at, and one found
 module _ (P : Cut → Type 0) (s cuts : List Cut) (same : s ≡ cuts) (i : ℕ) where

@@ -1,10 +1,10 @@
 -- The steps of the search keep what it has found the best so far, and there is less ahead after each.
-use Rattle.std.proofs.Common.{◌≡◌, ℕ, zero, suc, ◌+◌, ◌-◌, ◌*◌, ◌^◌, ◌<◌, ◌≤◌, Bool, true, false, ◌≢◌, ◌⊎◌, List, [], ◌∷◌, ◌++◌, length, take, Some, None, Option, sym, refl, ap, ◌∙◌, subst, inl, inr, ⊎_elim, suc-mul, mul_comm, add-mul, one-mul, arith, MatchOption}
+use Rattle.std.proofs.Common.{◌≡◌, ℕ, zero, suc, ◌+◌, ◌-◌, ◌*◌, ◌^◌, ◌<◌, ◌≤◌, Bool, List, [], ◌∷◌, ◌++◌, length, Some, None, Option, sym, ap, ◌∙◌, subst, inl, inr, ⊎_elim, suc-mul, one-mul, arith}
 use native.Mathlib.Nat.{pow-succ', one-le-pow}
 use Rattle.std.specs.List.{AllByRecursion as All}
 use Rattle.master.specs.Rows.{row_places, costs, Before}
 use Rattle.master.specs.Master.{Candidate, Earlier, Finds, OneBest}
-use Rattle.master.specs.Walks.{Passed, Starts, Leads, Sofar, ahead, Matched, Cheaper}
+use Rattle.master.specs.Walks.{Passed, Starts, Sofar, ahead, Matched, Cheaper}
 use Rattle.master.specs.declared.cut.Cut.{Cut}
 use Rattle.master.specs.declared.priced.Priced.{Priced}
 use Rattle.std.proofs.lemmas.Bool.{cases_lt}

@@ -1,9 +1,7 @@
 -- Each turn of the search, at a tariff and a table: it keeps what is known, and less is left.
-use Rattle.std.proofs.Common.{◌≡◌, ℕ, ◌+◌, ◌-◌, ◌^◌, ◌<◌, ◌≤◌, Bool, true, false, List, [], ◌∷◌, ◌++◌, length, get_or, take, set, Some, None, Option, sym, refl, ap, ◌∙◌, subst, arith}
+use Rattle.std.proofs.Common.{◌≡◌, ℕ, ◌+◌, ◌-◌, ◌^◌, ◌<◌, ◌≤◌, List, get_or, take, Some, None, Option, sym, refl, ◌∙◌, subst, arith}
 use Rattle.std.specs.List.{slice_get}
-use Rattle.master.specs.Cuts.{Obeys}
 use Rattle.master.specs.Master.{Candidate}
-use Rattle.master.specs.Refused.{most_places, top_price}
 use Rattle.master.specs.Rows.{costs}
 use Rattle.master.specs.Tables.{held}
 use Rattle.master.specs.Tariffs.{job_count, place_count, price_of, barred_in, from_offer}

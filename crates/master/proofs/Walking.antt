@@ -1,7 +1,7 @@
 -- The turns of the search, on its arrays.
-use Rattle.std.proofs.Common.{◌≡◌, ℕ, zero, suc, ◌+◌, ◌-◌, ◌*◌, ◌^◌, ◌<◌, ◌≤◌, min, Bool, true, false, ◌≢◌, ◌⊎◌, List, [], ◌∷◌, ◌++◌, length, get_or, take, set, replicate, Some, None, Option, sym, refl, ap, ◌∙◌, subst, inl, inr, ⊎_elim, add-one, arith}
-use Rattle.std.proofs.ByRecursion.{All-push, All-get_or, All-take}
-use Rattle.std.proofs.lemmas.List.{take_more, take-set, take-set-le, get_or-set_same, get_or-set_other, length-set, length-take-le, length_push, get_or_push, take_at}
+use Rattle.std.proofs.Common.{◌≡◌, ℕ, zero, suc, ◌+◌, ◌^◌, ◌<◌, ◌≤◌, Bool, true, false, ◌≢◌, ◌⊎◌, List, [], ◌∷◌, ◌++◌, length, get_or, take, set, replicate, Some, None, Option, sym, refl, ap, ◌∙◌, subst, ⊎_elim, add-one, arith}
+use Rattle.std.proofs.ByRecursion.{All-push}
+use Rattle.std.proofs.lemmas.List.{take_more, take-set, take-set-le, get_or-set_same, get_or-set_other, length-set, length-take-le}
 use Rattle.std.proofs.lemmas.Bool.{cases_eq, true≢false}
 use Rattle.std.specs.List.{AllByRecursion as All}
 use Rattle.jobs.specs.Sets.{width, Has}
@@ -10,7 +10,7 @@ use Rattle.jobs.proofs.Members.{none_in_zero}
 use Rattle.master.specs.Cuts.{Obeys}
 use Rattle.master.specs.Master.{Candidate, Finds, NoCandidate}
 use Rattle.master.specs.Rows.{row_places, Group, Permits, costs}
-use Rattle.master.specs.Walks.{Passed, Starts, Spare, Sofar, Walks, ahead, left_of, Matched, Cheaper, group_at, JoinsGroup, QuitsGroup}
+use Rattle.master.specs.Walks.{Starts, Spare, Sofar, Walks, ahead, left_of, Matched, Cheaper, group_at, JoinsGroup, QuitsGroup}
 use Rattle.master.specs.declared.cut.Cut.{Cut}
 use Rattle.master.specs.declared.groups.Groups.{Groups}
 use Rattle.master.specs.declared.priced.Priced.{Priced}

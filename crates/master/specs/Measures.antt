@@ -1,5 +1,5 @@
 -- How two costs become one.
-use Rattle.std.specs.Prelude.{ℕ, ◌+◌, ◌^◌, min, max}
+use Rattle.std.specs.Prelude.{ℕ, ◌+◌, min, max}
 
 -- the largest cost, of 32 bits
 abbrev pub most : ℕ

@@ -1,5 +1,5 @@
 -- When the calls are refused: the first of the checks that fails.
-use Rattle.std.specs.Prelude.{ℕ, ◌≤◌, Bool, ◌&&◌, Some, None, Ok, Err, Option, Result, nat_le, nat_lt}
+use Rattle.std.specs.Prelude.{ℕ, Bool, ◌&&◌, Some, None, Ok, Err, Option, Result, nat_le, nat_lt}
 use Rattle.jobs.specs.declared.refusal.Refusal.{Refusal}
 use Rattle.jobs.specs.declared.refusal.Refusal.TheVariants.{JobsOutOfRange, PlacesOutOfRange, NoSuchJob, NoSuchPlace, AmountTooLarge}
 use Rattle.jobs.specs.Refusals.{unless}

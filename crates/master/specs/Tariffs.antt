@@ -1,7 +1,6 @@
 -- Tariffs: the prices in force and the barred pairs.
-use Rattle.std.specs.Prelude.{◌≡◌, ℕ, ◌≤◌, Bool, true, false, cond, ◌&&◌, List, length, replicate, Some, None, Option, ◌==◌, slice_index, slice_index_or, refl}
+use Rattle.std.specs.Prelude.{◌≡◌, ℕ, Bool, false, cond, ◌&&◌, Some, None, Option, ◌==◌, slice_index, slice_index_or}
 use Rattle.std.specs.List.{slice_get}
-use Rattle.master.specs.Refused.{most_places}
 use Rattle.master.specs.declared.tariff.Tariff.{Tariff}
 use Rattle.master.specs.declared.offer.Offer.{Offer}
 

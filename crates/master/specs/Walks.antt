@@ -4,7 +4,6 @@ use Rattle.std.specs.Prelude.{◌≡◌, ℕ, ◌+◌, ◌-◌, ◌*◌, ◌^◌
 use Rattle.std.specs.List.{AllByRecursion as All}
 use Rattle.jobs.specs.Sets.{width, bits, Has}
 use Rattle.jobs.specs.Words.{Same}
-use Rattle.jobs.specs.declared.set.JobSet.{JobSet}
 use Rattle.master.specs.Cuts.{Obeys}
 use Rattle.master.specs.Master.{Candidate, Earlier, Finds}
 use Rattle.master.specs.Rows.{row_places, Group, Permits, costs}

@@ -1,5 +1,5 @@
-use Rattle.std.proofs.Common.{◌≡◌, ℕ, ◌+◌, ◌<◌, ◌≤◌, get_or, sym, ap, ◌∙◌, subst, arith}
-use Rattle.master.specs.Tariffs.{job_count, place_count, price_of}
+use Rattle.std.proofs.Common.{◌≡◌, ℕ, ◌<◌, get_or, subst, arith}
+use Rattle.master.specs.Tariffs.{price_of}
 use Rattle.master.specs.Walks.{next_place, Takes}
 use Rattle.master.proofs.Climbing.{Climbs, climbs}
 use Rattle.master.proofs.Turning.{sized, last_below, turn_over, turn_back, turn_skip, turn_deepen, turn_take}

@@ -1,4 +1,4 @@
-use Rattle.std.proofs.Common.{◌≡◌, ℕ, ◌+◌, ◌<◌, length, get_or, sym, refl, ◌∙◌, subst, arith, length-set, rules}
+use Rattle.std.proofs.Common.{◌≡◌, ℕ, ◌+◌, ◌<◌, length, get_or, refl, ◌∙◌, subst, arith, length-set, rules}
 use Rattle.master.specs.Cuts.{cut_of, room, Within}
 use Rattle.master.specs.Refused.{most_places}
 use Rattle.master.specs.Cuts.Adds.{covered}
