@@ -1,5 +1,5 @@
 -- A pile of two facilities tells what is true of them.
-use Rattle.std.proofs.Common.{◌≡◌, ℕ, zero, suc, ◌<◌, ◌≤◌, Bool, true, false, cond, List, [], ◌∷◌, Some, None, Ok, Err, Option, Result, sym, refl, ap, ◌∙◌, subst, ⊎_elim, arith}
+use Rattle.std.proofs.Common.{ℕ, zero, suc, ◌<◌, Bool, true, false, cond, List, [], ◌∷◌, Some, None, Ok, Err, Result, sym, refl, subst, ⊎_elim, arith}
 use Rattle.std.proofs.lemmas.Bool.{cases_lt, lt-ltb, le-ltb}
 use Rattle.jobs.specs.Refusals.{Answered}
 use Rattle.jobs.specs.Sets.{bits}
@@ -8,9 +8,8 @@ use Rattle.jobs.specs.declared.refusal.Refusal.{Refusal}
 use Rattle.jobs.specs.declared.refusal.Refusal.TheVariants.{NoSuchPlace}
 use Rattle.jobs.specs.declared.set.JobSet.{JobSet}
 use Rattle.workshops.specs.Piles.{Pile, pile, Piled, either, two_places, Counted, Surveyed}
-use Rattle.workshops.specs.Runs.{Event, granted, Runs, Steady}
-use Rattle.workshops.specs.Tallies.{Exact, Tallied, AskedAll}
-use Rattle.workshops.specs.Verdicts.{Grant}
+use Rattle.workshops.specs.Runs.{granted, Runs, Steady}
+use Rattle.workshops.specs.Tallies.{Exact}
 use Rattle.workshops.specs.declared.tally.Tally.{Tally}
 
 exactly_same : (y : Bool) {P Q : Type 0} → Same P Q → Exactly y Q → Exactly y P

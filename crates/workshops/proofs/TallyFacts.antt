@@ -1,5 +1,5 @@
 -- One place asked about set after set.
-use Rattle.std.proofs.Common.{◌≡◌, ℕ, zero, suc, ◌+◌, ◌<◌, ◌≤◌, Bool, true, false, List, [], ◌∷◌, ◌++◌, length, get_or, Some, None, Ok, Err, sym, refl, ap, ◌∙◌, subst, arith, length-append}
+use Rattle.std.proofs.Common.{◌≡◌, ℕ, zero, suc, ◌+◌, ◌<◌, ◌≤◌, Bool, true, false, List, [], ◌∷◌, ◌++◌, length, get_or, Some, None, Ok, sym, refl, ap, ◌∙◌, subst, arith, length-append}
 use Rattle.jobs.specs.Sets.{bits}
 use Rattle.jobs.specs.Words.{Exactly}
 use Rattle.jobs.specs.declared.set.JobSet.{JobSet}
@@ -8,10 +8,10 @@ use Rattle.workshops.specs.declared.reply.Reply.{Reply}
 use Rattle.workshops.specs.declared.reply.Reply.TheVariants.{Stop}
 use Rattle.workshops.specs.declared.tally.Tally.{Tally}
 use Rattle.workshops.specs.Replies.{True, answer, given}
-use Rattle.workshops.specs.Runs.{Event, asked, Runs, AllTold}
-use Rattle.workshops.specs.Tallies.{yeses, questions, Exact, Ends, Tallied, AskedAll}
+use Rattle.workshops.specs.Runs.{asked, Runs, AllTold}
+use Rattle.workshops.specs.Tallies.{yeses, questions, Exact, Tallied, AskedAll}
 use Rattle.workshops.specs.Verdicts.{Verdict}
-use Rattle.workshops.specs.Workshops.{Meaning, Kept, Lawful}
+use Rattle.workshops.specs.Workshops.{Meaning, Lawful}
 use Rattle.workshops.proofs.RunLaws.{all_steady, runs_append}
 
 -- the first n sets were answered, k of them yes

@@ -1,10 +1,10 @@
 -- The laws of an allowance, from those of the workshop below.
-use Rattle.std.specs.Prelude.{◌≡◌, ℕ, zero, suc, ◌+◌, ◌<◌, ◌≤◌, min, Bool, Some, None, Option, refl}
+use Rattle.std.specs.Prelude.{◌≡◌, ℕ, zero, suc, ◌<◌, ◌≤◌, Bool, Some, None, Option, refl}
 use Rattle.std.proofs.Common.{sym, ap, subst, ◌∙◌, arith}
 use Rattle.workshops.specs.Stances.{Stance, Ready, Stopped, deeper}
 use Rattle.workshops.specs.Replies.{True}
 use Rattle.workshops.specs.Workshops.{Meaning, Kept, Unmoved, Lawful}
-use Rattle.workshops.specs.Allowances.{left_at, topped_up, paid, Charged, allowance}
+use Rattle.workshops.specs.Allowances.{topped_up, paid, Charged, allowance}
 use Rattle.workshops.specs.declared.allowance.Allowance.{Allowance}
 use Rattle.workshops.specs.ReplyFacts.{deeper_ready, deeper_bytes}
 use Rattle.workshops.specs.KeptFacts.{kept_same, unmoved_same}

@@ -1,5 +1,5 @@
 -- What keeps count and families.
-use Rattle.std.specs.Prelude.{◌≡◌, ℕ, refl}
+use Rattle.std.specs.Prelude.{◌≡◌, refl}
 use Rattle.std.proofs.Common.{sym, ap, subst, ◌∙◌}
 use Rattle.workshops.specs.Workshops.{Meaning, Kept, Unmoved}
 

@@ -1,18 +1,16 @@
 -- The laws of a memo, from those of the workshop below.
-use Rattle.std.specs.Prelude.{◌≡◌, ℕ, ◌<◌, ◌≤◌, Bool, true, false, cond, List, [], ◌∷◌, ◌++◌, length, drop, Some, None, Ok, Err, Option, nat_lt, refl}
-use Rattle.std.proofs.Common.{sym, ap, subst, ◌∙◌, ⊎_elim, arith}
+use Rattle.std.specs.Prelude.{◌≡◌, ℕ, ◌<◌, ◌≤◌, Bool, true, false, cond, List, [], ◌∷◌, ◌++◌, length, drop, Some, None, Ok, Option, nat_lt, refl}
+use Rattle.std.proofs.Common.{sym, ap, subst, ◌∙◌, ⊎_elim}
 use Rattle.jobs.specs.Sets.{bits}
 use Rattle.jobs.specs.Words.{Same}
 use Rattle.jobs.specs.declared.set.JobSet.{JobSet}
 use Rattle.workshops.specs.Stances.{Stance, Ready, Stopped, deeper}
 use Rattle.workshops.specs.Replies.{True, Allowed, answer, given}
-use Rattle.workshops.specs.Verdicts.{Verdict}
 use Rattle.workshops.specs.Workshops.{Meaning, Kept, Unmoved, Lawful}
-use Rattle.workshops.specs.Remembered.{remembered, joined, room, Settles, Knows, known}
+use Rattle.workshops.specs.Remembered.{remembered, room, Settles, Knows, known}
 use Rattle.workshops.specs.Memos.{note, AllTrue, recalled, Recalls, memo}
 use Rattle.workshops.specs.declared.memo.Memo.{Memo}
 use Rattle.workshops.specs.declared.notes.Note.{Note}
-use Rattle.workshops.specs.declared.reply.Reply.{Reply}
 use Rattle.workshops.specs.ReplyFacts.{never, deeper_ready, deeper_bytes}
 use Rattle.workshops.specs.KeptFacts.{kept_same, unmoved_same}
 use Rattle.workshops.specs.KnownFacts.{known_knows}

@@ -1,6 +1,5 @@
 -- A memo: a workshop and the verdicts that it gave.
 use Rattle.std.specs.Prelude.{◌≡◌, ℕ, ◌<◌, Bool, List, [], ◌∷◌, Some, None, Option}
-use Rattle.jobs.specs.declared.set.JobSet.{JobSet}
 use Rattle.jobs.specs.Sets.{bits}
 use Rattle.workshops.specs.Stances.{Stance, Ready, deeper}
 use Rattle.workshops.specs.Replies.{True}

@@ -1,10 +1,10 @@
 -- The laws of a pair, from those of its two workshops.
-use Rattle.std.specs.Prelude.{◌≡◌, ℕ, ◌+◌, ◌-◌, ◌<◌, ◌≤◌, min, Bool, true, false, cond, Some, None, Ok, Err, Option, nat_lt, refl}
+use Rattle.std.specs.Prelude.{◌≡◌, ℕ, ◌+◌, ◌-◌, ◌<◌, ◌≤◌, min, Bool, true, false, cond, None, Ok, Option, nat_lt, refl}
 use Rattle.std.proofs.Common.{sym, ap, subst, ◌∙◌, arith}
 use Rattle.std.proofs.lemmas.Bool.{ltb-true, ltb-false, cond-true, cond-false, lt-ltb, le-ltb}
 use Rattle.jobs.specs.Sets.{Part}
 use Rattle.jobs.specs.Words.{Same}
-use Rattle.workshops.specs.Stances.{Stance, Ready, Stopped, deeper}
+use Rattle.workshops.specs.Stances.{Ready, Stopped, deeper}
 use Rattle.jobs.specs.Sets.{bits}
 use Rattle.jobs.specs.declared.set.JobSet.{JobSet}
 use Rattle.workshops.specs.Replies.{True, Allowed, given, raised}

@@ -1,6 +1,5 @@
 -- Two facilities as a pile: a memo over an allowance over their pair.
 use Rattle.std.specs.Prelude.{◌≡◌, ℕ, zero, suc, Bool, cond, List, [], length, Some, None, Option, Result, nat_lt}
-use Rattle.jobs.specs.Refusals.{Answered}
 use Rattle.jobs.specs.declared.refusal.Refusal.{Refusal}
 use Rattle.jobs.specs.declared.refusal.Refusal.TheVariants.{NoSuchPlace}
 use Rattle.jobs.specs.declared.set.JobSet.{JobSet}

@@ -1,5 +1,5 @@
 -- What a workshop means, and the laws that every workshop obeys.
-use Rattle.std.specs.Prelude.{◌≡◌, ℕ, ◌<◌, ◌≤◌, Bool, Some, None, Option}
+use Rattle.std.specs.Prelude.{◌≡◌, ℕ, ◌<◌, ◌≤◌, Bool, None, Option}
 use Rattle.jobs.specs.Sets.{Part}
 use Rattle.jobs.specs.Words.{Same}
 use Rattle.workshops.specs.Stances.{Stance, Ready, Stopped}

@@ -1,11 +1,11 @@
-use Rattle.std.proofs.Common.{◌≡◌, ◌<◌, ◌≤◌, true, false, length, refl, subst, arith}
+use Rattle.std.proofs.Common.{true, false, refl, arith}
 use Rattle.workshops.proofs.RunLaws.{all_steady}
 use Rattle.workshops.proofs.TallyFacts.{going_none, going_few, going_more, going_inside, going_all, going_stopped, tallied}
 use Rattle.workshops.proofs.tally.ask_all.Goals as goal
 use Rattle.workshops.proofs.tally.ask_all.Goals.{in-Yes, in-No}
 
-pub returns-then-place_count : goal.returns-then-place_count
-returns-then-place_count g c = record {
+pub returns-then-place-count : goal.returns-then-place-count
+returns-then-place-count g c = record {
   tally = record { refuses = λ l. (refl, refl); tallies = λ l. absurd (omega arith) };
   steady = all_steady g.W.Workshop.meaning g.met.W.Workshop.lawful;
 }

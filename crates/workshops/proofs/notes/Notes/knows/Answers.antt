@@ -1,4 +1,4 @@
-use Rattle.std.proofs.Common.{◌≡◌, ◌<◌, ◌≤◌, length, take, subst, arith}
+use Rattle.std.proofs.Common.{◌≡◌, length, take, subst, arith}
 use Rattle.jobs.specs.Sets.{bits}
 use Rattle.workshops.specs.Remembered.{Knows}
 use Rattle.workshops.specs.KnownFacts.{knows_ring, knows_within, knows_more}

@@ -1,4 +1,4 @@
-use Rattle.std.proofs.Common.{◌≡◌, ◌<◌, length, arith}
+use Rattle.std.proofs.Common.{◌≡◌, length, arith}
 use Rattle.workshops.specs.Ring.{with_room, full}
 use Rattle.workshops.proofs.notes.Notes.remember.Goals as goal
 
