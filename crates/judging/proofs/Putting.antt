@@ -1,5 +1,5 @@
 -- Putting a set to one place, and the places of a row one after the other.
-use Rattle.std.proofs.Common.{◌≡◌, ℕ, suc, ◌+◌, ◌<◌, ◌≤◌, Bool, true, false, List, sym, refl, ap, ◌∙◌, subst, add-one, arith}
+use Rattle.std.proofs.Common.{◌≡◌, ℕ, ◌+◌, ◌<◌, ◌≤◌, Bool, true, false, List, sym, refl, subst, add-one, arith}
 use Rattle.workshops.specs.Workshops.{Meaning, Lawful, Kept}
 use Rattle.workshops.specs.declared.reply.Fault.{Fault}
 use Rattle.workshops.specs.declared.reply.Reply.TheVariants.{Yes, No, Stop}

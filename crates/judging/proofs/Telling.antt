@@ -1,15 +1,13 @@
 -- What a turn and a judgement tell of a workshop that keeps its word.
-use Rattle.std.proofs.Common.{◌≡◌, ℕ, zero, suc, ◌+◌, ◌<◌, ◌≤◌, Bool, true, false, ◌≢◌, ◌⊎◌, List, length, sym, refl, ap, ◌∙◌, subst, ⊎_elim, arith}
+use Rattle.std.proofs.Common.{◌≡◌, ℕ, ◌<◌, ◌≤◌, Bool, true, false, ◌≢◌, List, sym, refl, ap, ◌∙◌, subst, ⊎_elim, arith}
 use Rattle.std.proofs.lemmas.Bool.{cases_eq}
 use Rattle.jobs.specs.Sets.{bits, Part, without, jobs_of}
 use Rattle.jobs.specs.declared.set.JobSet.{JobSet}
 use Rattle.jobs.proofs.Members.{by_members, part_refl, part_trans, without_part}
-use Rattle.workshops.specs.Workshops.{Meaning, Lawful, Kept}
+use Rattle.workshops.specs.Workshops.{Meaning, Lawful}
 use Rattle.workshops.specs.declared.reply.Fault.{Fault}
 use Rattle.workshops.specs.declared.reply.Reply.TheVariants.{Yes, No, Stop}
-use Rattle.master.specs.Cuts.{room}
 use Rattle.master.specs.Rows.{Group}
-use Rattle.master.specs.declared.cut.Addition.{Addition}
 use Rattle.master.specs.declared.cut.Cut.{Cut}
 use Rattle.judging.specs.declared.outcome.Outcome.{Outcome}
 use Rattle.judging.specs.declared.outcome.Turn.{Turn}
@@ -20,7 +18,7 @@ use Rattle.judging.specs.Judging.Judges.{start as judges_start, passes, adds}
 use Rattle.judging.specs.Judging.Puts.{passed, stopped, full, halted, added}
 use Rattle.judging.specs.Judging.Tries.{start, needed, spared}
 use Rattle.judging.specs.Shrunk.{Shrunk, done}
-use Rattle.judging.specs.Truths.{Follows, StopsAt, Tells, AllCan, TellsAll}
+use Rattle.judging.specs.Truths.{Follows, StopsAt, Tells, TellsAll}
 use Rattle.judging.proofs.Keeping.{follows_same, follows_trans, kept_below, asked_follows, tries_follows, puts_follows}
 use Rattle.judging.proofs.Shrunken.{shrunk_needed, shrunk_spared, shrunk_part, shrinks_to}
 

@@ -1,5 +1,5 @@
 -- Inner: what the private functions promise. No public contract cites this file.
-use Rattle.std.specs.Prelude.{◌≡◌, ℕ, ◌<◌, Bool, true, false, List, [], ◌∷◌, ◌++◌, length, Ok, Err, Result}
+use Rattle.std.specs.Prelude.{◌≡◌, ℕ, ◌<◌, Bool, true, false, List, ◌∷◌, ◌++◌, length, Ok, Err, Result}
 use Rattle.jobs.specs.Sets.{bits, without, jobs_of}
 use Rattle.jobs.specs.declared.set.JobSet.{JobSet}
 use Rattle.workshops.specs.Workshops.{Meaning}

@@ -3,7 +3,7 @@ use Rattle.std.proofs.Common.{◌≡◌, ℕ, suc, List, [], ◌∷◌, ◌++◌
 use Rattle.std.proofs.lemmas.List.{append_assoc, append_cancel_left}
 use Rattle.std.specs.Str.Parse.{digits_value}
 use Rattle.std.specs.List.{AllByRecursion as All}
-use Rattle.sheet.specs.Sheets.{numeral, pair, title, placing, feed, head, line, lines, no_tail, sheet, ToldApart}
+use Rattle.sheet.specs.Sheets.{numeral, pair, title, placing, feed, head, line, lines, no_tail, ToldApart}
 use Rattle.sheet.proofs.Numbers.{Figure, figures_numeral, value_numeral}
 
 -- two runs of digits, each up to the first byte that is none

@@ -19,9 +19,9 @@ returns-in_err-left g c =
     let now = c.loop-job in
     let got = c.in-Some.ensures in
     let fault = c.in_err-left.field-0.0 in
-    let is : c.from-residual.result ≡ Err fault = search rules in
+    let is : c.from_residual.result ≡ Err fault = search rules in
     tries_halt g.W.Workshop.meaning c.args.place c.args.set.bits c.args.workshop.now (listed c.jobs-jobs.result) now.tried now.left now.workshop c.in-Some.job c.leave_out.new.workshop now.invariant got.0 got.1
-    fault c.leave_out.result c.from-residual.result c.in_err-left.was is c.jobs-jobs.ensures c.leave_out.ensures
+    fault c.leave_out.result c.from_residual.result c.in_err-left.was is c.jobs-jobs.ensures c.leave_out.ensures
 
 pub loop-job-smaller : goal.loop-job-smaller
 loop-job-smaller g c = omega (arith, c.in-Some.ensures.0)

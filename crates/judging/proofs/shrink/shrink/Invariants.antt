@@ -1,4 +1,4 @@
-use Rattle.std.proofs.Common.{◌-◌, ◌≤◌, length, take}
+use Rattle.std.proofs.Common.{◌-◌, length, take}
 use Rattle.jobs.specs.Lists.{listed}
 use Rattle.judging.specs.Judging.{Tries}
 use Rattle.judging.proofs.shrink.shrink.Given as goal

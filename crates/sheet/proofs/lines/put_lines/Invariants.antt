@@ -1,4 +1,4 @@
-use Rattle.std.proofs.Common.{ℕ, ◌-◌, length}
+use Rattle.std.proofs.Common.{◌-◌, length}
 use Rattle.master.specs.Rows.{row_places}
 use Rattle.sheet.proofs.Lining.{Lined}
 use Rattle.sheet.proofs.lines.put_lines.Given as goal

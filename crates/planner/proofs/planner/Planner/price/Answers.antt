@@ -8,7 +8,7 @@ use Rattle.planner.proofs.planner.Planner.price.Goals as goal
 
 pub returns-in_err-tariff : goal.returns-in_err-tariff
 returns-in_err-tariff g c =
-    let p = err_from_is_err_and c.from-residual.result c.from-residual.ensures.1 in
+    let p = err_from_is_err_and c.from_residual.result c.from_residual.ensures.1 in
     rw (p.1, p.2) (called g.W.Workshop.meaning g.J.Measure.joins g.met.W.Workshop.lawful
     (idle_step g.W.Workshop.meaning g.J.Measure.joins (state c.args.self.now)
     (Price c.args.job c.args.place c.args.amount) c.in_err-tariff.field-0.0 (answered_err _ _ _ c.in_err-tariff.ensures))
@@ -16,7 +16,7 @@ returns-in_err-tariff g c =
 
 pub returns-in_err-set_price : goal.returns-in_err-set_price
 returns-in_err-set_price g c =
-    let p = err_from_is_err_and c.from-residual-in_err-set_price.result c.from-residual-in_err-set_price.ensures.1 in
+    let p = err_from_is_err_and c.from_residual-in_err-set_price.result c.from_residual-in_err-set_price.ensures.1 in
     let old = c.args.self.now in
     let t = c.in_ok-tariff.tariff in
     let fit = answered_ok _ _ _ c.in_ok-tariff.ensures in

@@ -9,7 +9,7 @@ use Rattle.planner.proofs.planner.Planner.propose.Goals as goal
 
 pub returns-in_err-tariff : goal.returns-in_err-tariff
 returns-in_err-tariff g c =
-    let p = err_from_is_err_and c.from-residual.result c.from-residual.ensures.1 in
+    let p = err_from_is_err_and c.from_residual.result c.from_residual.ensures.1 in
     rw (p.1, p.2) (called g.W.Workshop.meaning g.J.Measure.joins g.met.W.Workshop.lawful
     (idle_step g.W.Workshop.meaning g.J.Measure.joins (state c.args.self.now)
     Propose c.in_err-tariff.field-0.0 (answered_err _ _ _ c.in_err-tariff.ensures))
