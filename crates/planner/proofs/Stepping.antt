@@ -1,5 +1,5 @@
 -- What each call does is a step of the planner as it is seen.
-use Rattle.std.proofs.Common.{◌≡◌, ℕ, ◌+◌, Bool, true, false, cond, ◌&&◌, eqb, List, [], ◌∷◌, Some, None, Ok, Err, Option, Result, sym, refl, ap, ◌∙◌, subst, arith}
+use Rattle.std.proofs.Common.{◌≡◌, ℕ, ◌+◌, Bool, false, List, [], Some, None, Ok, Err, Option, sym, refl, ap, ◌∙◌, subst, arith}
 use mathlib.Core.Path.{fun_ext}
 use Rattle.jobs.specs.declared.refusal.Refusal.{Refusal}
 use Rattle.jobs.specs.declared.refusal.Refusal.TheVariants.{RoundsUsedUp, NotPending}
@@ -17,7 +17,7 @@ use Rattle.judging.specs.declared.outcome.Outcome.{Outcome}
 use Rattle.planner.specs.Views.{offer, proposal_of}
 use Rattle.planner.specs.Calls.{Call, Price, Bar, Grant, Propose, Judge, Answer, Refused, Done, Proposed, Nothing}
 use Rattle.planner.specs.States.{State, with_price, with_bar, with_workshop, with_pending, judged, fresh}
-use Rattle.planner.specs.Steps.{last_round, end_of, Step, refused, accepted, Refuses, Accepts}
+use Rattle.planner.specs.Steps.{last_round, end_of, Step, refused, accepted}
 use Rattle.planner.specs.Steps.Refuses.{idle, price as price_refused, bar as bar_refused, rounds, judge as judge_refused}
 use Rattle.planner.specs.Steps.Accepts.{price as price_accepted, bar as bar_accepted, grant as grant_accepted, proposal as proposal_accepted, none as none_accepted, judgement as judgement_accepted}
 

@@ -1,5 +1,5 @@
 -- The calls of a planner and their answers, as numbers and lists of places.
-use Rattle.std.specs.Prelude.{ℕ, Bool, true, false, List}
+use Rattle.std.specs.Prelude.{ℕ, Bool, List}
 use Rattle.jobs.specs.declared.refusal.Refusal.{Refusal}
 use Rattle.workshops.specs.declared.reply.Fault.{Fault}
 

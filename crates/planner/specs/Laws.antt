@@ -9,7 +9,7 @@ use Rattle.master.specs.Cuts.{room}
 use Rattle.master.specs.Master.{Best}
 use Rattle.master.specs.Rows.{Assigns, Permits, Group, costs}
 use Rattle.master.specs.declared.cut.Cut.{Cut}
-use Rattle.planner.specs.Calls.{Call, Price, Bar, Grant, Propose, Judge, Answer, Refused, Done, Proposed, Nothing, Planned, CutOff, StoppedAt, TableFull, Event, Ending}
+use Rattle.planner.specs.Calls.{Call, Judge, Answer, Refused, Done, Proposed, Nothing, Planned, CutOff, StoppedAt, TableFull, Event, Ending}
 use Rattle.planner.specs.States.{State}
 use Rattle.planner.specs.Runs.{price_now, barred_now, pending_now, judgements, reported, Run, made, next}
 

@@ -1,5 +1,5 @@
 -- A planner as it is seen from outside, and what each call makes of it.
-use Rattle.std.specs.Prelude.{◌≡◌, ℕ, ◌+◌, Bool, false, List, [], Some, None, Option}
+use Rattle.std.specs.Prelude.{ℕ, ◌+◌, Bool, false, List, [], None, Option}
 use Rattle.master.specs.Tariffs.{replaced}
 use Rattle.master.specs.declared.cut.Cut.{Cut}
 

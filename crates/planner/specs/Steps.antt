@@ -1,5 +1,5 @@
 -- Each call: when it is refused, what it answers, and what it makes of the planner.
-use Rattle.std.specs.Prelude.{◌≡◌, ℕ, ◌+◌, Bool, ◌&&◌, List, [], ◌∷◌, Some, None, Option, ◌≢◌}
+use Rattle.std.specs.Prelude.{◌≡◌, ℕ, ◌+◌, Bool, List, Some, None, ◌≢◌}
 use Rattle.jobs.specs.declared.refusal.Refusal.{Refusal}
 use Rattle.jobs.specs.declared.refusal.Refusal.TheVariants.{RoundsUsedUp, NotPending}
 use Rattle.workshops.specs.Workshops.{Meaning}

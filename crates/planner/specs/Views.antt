@@ -5,8 +5,6 @@ use Rattle.master.specs.Rows.{row_places}
 use Rattle.master.specs.Tables.{held}
 use Rattle.master.specs.Tariffs.{price_of, barred_in}
 use Rattle.master.specs.declared.priced.Priced.{Priced}
-use Rattle.planner.specs.declared.answers.Proposal.{Proposal}
-use Rattle.planner.specs.declared.answers.Plan.{Plan}
 use Rattle.planner.specs.declared.answers.Proposing.{Proposing}
 use Rattle.planner.specs.declared.answers.Proposing.TheVariants.{Found, Nothing as NoProposal}
 use Rattle.planner.specs.declared.answers.Judgement.{Judgement}

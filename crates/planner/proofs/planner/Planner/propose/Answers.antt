@@ -1,4 +1,4 @@
-use Rattle.std.proofs.Common.{◌≡◌, Ok, sym, refl, arith}
+use Rattle.std.proofs.Common.{◌≡◌, Ok, refl, arith}
 use Rattle.std.proofs.lemmas.Result.{err_from_is_err_and}
 use Rattle.planner.specs.Views.{state, proposing}
 use Rattle.planner.specs.Calls.{Propose}
