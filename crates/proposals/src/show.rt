@@ -4,7 +4,7 @@ use master::priced::Priced;
 use std::num::ParseIntError;
 use std::{fmt, io};
 
-#[derive(Drop)]
+#[derive(Debug, Drop)]
 pub enum Failure {
     Refused(Refusal),
     Output(io::Error),

@@ -7,7 +7,7 @@ use jobs::set::JobSet;
 use std::{fmt, io};
 
 // Why the program ended early.
-#[derive(Drop)]
+#[derive(Debug, Drop)]
 pub enum Failure {
     Refused(Refusal),
     Output(io::Error),

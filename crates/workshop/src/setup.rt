@@ -6,7 +6,7 @@ use planner::run::Call;
 use std::io;
 
 // Why the program ended without a sheet.
-#[derive(Drop)]
+#[derive(Debug, Drop)]
 pub enum Trouble {
     Refused(Refusal),
     Output(io::Error),
