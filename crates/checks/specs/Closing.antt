@@ -1,5 +1,5 @@
 -- A closed workshop: no set can be scheduled, and every question stops in the same way. No call changes it.
-use Rattle.std.specs.Prelude.{◌≡◌, ℕ}
+use Rattle.std.specs.Prelude.{◌≡◌}
 use Rattle.workshops.specs.Stances.{Stopped}
 use Rattle.workshops.specs.Workshops.{Meaning}
 use Rattle.checks.specs.declared.closed.Closed.{Closed}
