@@ -1,7 +1,7 @@
 -- What is left of the cuts when one is added.
 use Rattle.std.proofs.Common.{◌≡◌, ℕ, zero, suc, ◌+◌, ◌<◌, ◌≤◌, Bool, ◌⊎◌, List, [], ◌∷◌, ◌++◌, length, get_or, take, set, Ok, sym, refl, ap, ◌∙◌, subst, inl, inr, ⊎_elim, arith, length-set, lt-ltb}
 use Rattle.std.proofs.lemmas.List.{take_more, take_more_set, length-take-le}
-use Rattle.std.specs.List.{AllByRecursion as All}
+use Rattle.std.specs.List.{AllByRecursion}
 use Rattle.master.specs.Cuts.{room, cut_of, Breaks, Obeys, Within, Leaves, Covers, Adds, RulesOut, Touches, Clash, Misplaced}
 use Rattle.master.specs.Rows.{Gives}
 use Rattle.master.specs.declared.cut.Addition.{Addition}
@@ -22,11 +22,11 @@ use Rattle.jobs.specs.declared.refusal.Refusal.TheVariants.{NoSuchPlace}
 abbrev pub no_cut : Cut
 no_cut = cut_of 0 (record { bits = 0 })
 
-pub not_covered : (c : Cut) (cs : List Cut) → All (λ d. Within d c → ⊥) cs → Covers c cs → ⊥
+pub not_covered : (c : Cut) (cs : List Cut) → AllByRecursion (λ d. Within d c → ⊥) cs → Covers c cs → ⊥
 not_covered c cs h (here d ds k) = h.0 k
 not_covered c cs h (there d ds k) = not_covered c ds h.1 k
 
-pub all_stay : (c : Cut) (cs left : List Cut) → All (λ d. Within c d → ⊥) cs → Leaves c cs left → left ≡ cs
+pub all_stay : (c : Cut) (cs left : List Cut) → AllByRecursion (λ d. Within c d → ⊥) cs → Leaves c cs left → left ≡ cs
 all_stay c cs left h none = refl
 all_stay c cs left h (goes d ds es k l) = absurd (h.0 k)
 all_stay c cs left h (stays d ds es k l) = ap (λ (xs : List Cut). d ∷ xs) (all_stay c ds es h.1 l)

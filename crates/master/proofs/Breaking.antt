@@ -3,7 +3,7 @@ use Rattle.std.proofs.Common.{◌≡◌, ℕ, ◌+◌, ◌<◌, ◌≤◌, Bool,
 use Rattle.std.proofs.ByRecursion.{All-more, All-get_or, All-weaker}
 use Rattle.std.proofs.lemmas.List.{take_all}
 use Rattle.std.proofs.lemmas.Bool.{cases_eq}
-use Rattle.std.specs.List.{AllByRecursion as All}
+use Rattle.std.specs.List.{AllByRecursion}
 use Rattle.jobs.specs.Refusals.{Answered}
 use Rattle.jobs.specs.declared.refusal.Refusal.TheVariants.{NoSuchJob}
 use Rattle.jobs.specs.Sets.{bits, Has, Part, width, job_refusal}
@@ -18,13 +18,13 @@ use Rattle.master.proofs.Giving.{gives_push, group_more}
 
 -- a loop over the cuts: one more looked at, all looked at, and one found
 module _ (P : Cut → Type 0) (s cuts : List Cut) (same : s ≡ cuts) (i : ℕ) where
-  pub looked_more : i < length s → P (get_or s i no_cut) → All P (take i cuts) → All P (take (i + 1) cuts)
+  pub looked_more : i < length s → P (get_or s i no_cut) → AllByRecursion P (take i cuts) → AllByRecursion P (take (i + 1) cuts)
   looked_more l p h = All-more P cuts i no_cut (omega (arith, ap length same)) h (subst (λ (cs : List Cut). P (get_or cs i no_cut)) same p)
 
-  pub looked_all : length s ≤ i → All P (take i cuts) → All P cuts
-  looked_all l h = subst (λ (cs : List Cut). All P cs) (take_all i cuts (omega (arith, ap length same))) h
+  pub looked_all : length s ≤ i → AllByRecursion P (take i cuts) → AllByRecursion P cuts
+  looked_all l h = subst (λ (cs : List Cut). AllByRecursion P cs) (take_all i cuts (omega (arith, ap length same))) h
 
-  pub looked_at : i < length s → All P cuts → P (get_or s i no_cut)
+  pub looked_at : i < length s → AllByRecursion P cuts → P (get_or s i no_cut)
   looked_at l h = subst (λ (cs : List Cut). P (get_or cs i no_cut)) (sym same) (All-get_or P cuts i no_cut (omega (arith, ap length same)) h)
 
 -- no row with fewer jobs breaks more

@@ -1,6 +1,6 @@
 -- Rows taken in order: `pre` has the places of the first jobs, `x` is the next place to try.
 use Rattle.std.proofs.Common.{◌≡◌, ℕ, zero, suc, ◌+◌, ◌^◌, ◌<◌, ◌≤◌, ◌≢◌, ◌⊎◌, List, [], ◌∷◌, ◌++◌, length, sym, refl, ap, ◌∙◌, subst, inl, inr, ⊎_elim, arith}
-use Rattle.std.specs.List.{AllByRecursion as All}
+use Rattle.std.specs.List.{AllByRecursion}
 use Rattle.std.proofs.lemmas.Bool.{cases_eq}
 use Rattle.master.specs.Rows.{Gives, joins_from, Before}
 use Rattle.master.specs.Walks.{Passed, Starts}
@@ -57,7 +57,7 @@ down_passed (p ∷ pre) x [] h = absurd h
 down_passed (p ∷ pre) x (y ∷ r) h = ⊎_elim inl (λ (k : (y ≡ p) × Passed pre x r). inr (k.0, down_passed pre x r k.1)) h
 
 -- back from the last place of a job
-pub passed_back : (pre : List ℕ) (y m : ℕ) (r : List ℕ) → All (λ x. x < m) r → length pre + 1 < length r → Passed pre (suc y) r → Passed (pre ++ y ∷ []) m r
+pub passed_back : (pre : List ℕ) (y m : ℕ) (r : List ℕ) → AllByRecursion (λ x. x < m) r → length pre + 1 < length r → Passed pre (suc y) r → Passed (pre ++ y ∷ []) m r
 passed_back [] y m [] e l h = absurd h
 passed_back [] y m (z ∷ []) e l h = absurd (omega arith)
 passed_back [] y m (z ∷ v ∷ r) e l h = ⊎_elim (λ (q : z ≡ y). inr (q, e.1.0)) (λ (ne : z ≢ y). inl (omega arith)) (cases_eq z y)

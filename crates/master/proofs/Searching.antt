@@ -1,7 +1,7 @@
 -- The steps of the search keep what it has found the best so far, and there is less ahead after each.
 use Rattle.std.proofs.Common.{◌≡◌, ℕ, zero, suc, ◌+◌, ◌-◌, ◌*◌, ◌^◌, ◌<◌, ◌≤◌, Bool, List, [], ◌∷◌, ◌++◌, length, Some, None, Option, sym, ap, ◌∙◌, subst, inl, inr, ⊎_elim, suc-mul, one-mul, arith}
 use native.Mathlib.Nat.{pow-succ', one-le-pow}
-use Rattle.std.specs.List.{AllByRecursion as All}
+use Rattle.std.specs.List.{AllByRecursion}
 use Rattle.master.specs.Rows.{row_places, costs, Before}
 use Rattle.master.specs.Master.{Candidate, Earlier, Finds, OneBest}
 use Rattle.master.specs.Walks.{Passed, Starts, Sofar, ahead, Matched, Cheaper}
@@ -82,7 +82,7 @@ module _ (n m : ℕ) (joined price : ℕ → ℕ → ℕ) (barred : ℕ → ℕ 
   all_passed : 0 < n → (r : List ℕ) → Cand r → Passed [] m r
   all_passed some r c = go r c.assigns.places (omega (arith, c.assigns.jobs))
     where
-      go : (s : List ℕ) → All (λ x. x < m) s → 0 < length s → Passed [] m s
+      go : (s : List ℕ) → AllByRecursion (λ x. x < m) s → 0 < length s → Passed [] m s
       go [] e l = absurd (omega arith)
       go (y ∷ s) e l = e.0
 

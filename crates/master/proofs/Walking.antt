@@ -3,7 +3,7 @@ use Rattle.std.proofs.Common.{◌≡◌, ℕ, zero, suc, ◌+◌, ◌^◌, ◌<�
 use Rattle.std.proofs.ByRecursion.{All-push}
 use Rattle.std.proofs.lemmas.List.{take_more, take-set, take-set-le, get_or-set_same, get_or-set_other, length-set, length-take-le}
 use Rattle.std.proofs.lemmas.Bool.{cases_eq, true≢false}
-use Rattle.std.specs.List.{AllByRecursion as All}
+use Rattle.std.specs.List.{AllByRecursion}
 use Rattle.jobs.specs.Sets.{width, Has}
 use Rattle.jobs.specs.Words.{Same}
 use Rattle.jobs.proofs.Members.{none_in_zero}
@@ -20,7 +20,7 @@ use Rattle.master.proofs.Giving.{gives_still, gives_last, group_more, group_othe
 use Rattle.master.proofs.Passing.{starts_gives, starts_more}
 use Rattle.master.proofs.Searching.{sofar_down, sofar_back, sofar_skip, sofar_take, sofar_start, sofar_end, ahead_skip, ahead_down, ahead_back}
 
-all_front : {X : Type 0} (P : X → Type 0) (xs : List X) (y : X) → All P (xs ++ y ∷ []) → All P xs × P y
+all_front : {X : Type 0} (P : X → Type 0) (xs : List X) (y : X) → AllByRecursion P (xs ++ y ∷ []) → AllByRecursion P xs × P y
 all_front P [] y h = (tt, h.0)
 all_front P (x ∷ xs) y h = let k = all_front P xs y h.1 in ((h.0, k.0), k.1)
 
@@ -45,7 +45,7 @@ module _ (n m : ℕ) (joined price : ℕ → ℕ → ℕ) (barred : ℕ → ℕ 
         next = omega (arith, here, lt);
         row_long = length-set row d (x + 1) ∙ h.row_long;
         totals_long = h.totals_long;
-        within = subst (λ (r : List ℕ). All (λ y. y < m) r) (sym same) h.within;
+        within = subst (λ (r : List ℕ). AllByRecursion (λ y. y < m) r) (sym same) h.within;
         permitted = subst (λ (r : List ℕ). Permits barred r) (sym same) h.permitted;
         obeying = subst (λ (r : List ℕ). Obeys r cuts) (sym same) h.obeying;
         grouped = λ p l. subst (λ (r : List ℕ). Group r p (group_at groups p)) (sym same) (h.grouped p l);
@@ -70,7 +70,7 @@ module _ (n m : ℕ) (joined price : ℕ → ℕ → ℕ) (barred : ℕ → ℕ 
         next = omega (arith, here);
         row_long = length-set row (d + 1) 0 ∙ h.row_long;
         totals_long = length-set totals (d + 1) total ∙ h.totals_long;
-        within = subst (λ (r : List ℕ). All (λ y. y < m) r) (sym same) (All-push (λ y. y < m) (take d row) x h.within lt);
+        within = subst (λ (r : List ℕ). AllByRecursion (λ y. y < m) r) (sym same) (All-push (λ y. y < m) (take d row) x h.within lt);
         permitted = subst (λ (r : List ℕ). Permits barred r) (sym same) (permits_push barred (take d row) x d long h.permitted free);
         obeying = subst (λ (r : List ℕ). Obeys r cuts) (sym same) ok;
         grouped = λ p l. subst (λ (r : List ℕ). Group r p (group_at groups' p)) (sym same) (⊎_elim
@@ -99,7 +99,7 @@ module _ (n m : ℕ) (joined price : ℕ → ℕ → ℕ) (barred : ℕ → ℕ 
       let here : get_or (set row e (y + 1)) e 0 ≡ y + 1 = get_or-set_same row e (y + 1) 0 in_row in
       let same : take e (set row e (y + 1)) ≡ take e row = take-set row e (y + 1) in
       let split : take d row ≡ take e row ++ y ∷ [] = ap (λ (i : ℕ). take i row) q ∙ take_more row e 0 in_row in
-      let parts = all_front (λ z. z < m) (take e row) y (subst (λ (r : List ℕ). All (λ z. z < m) r) split h.within) in
+      let parts = all_front (λ z. z < m) (take e row) y (subst (λ (r : List ℕ). AllByRecursion (λ z. z < m) r) split h.within) in
       let s₁ : Sofar n m joined price barred cuts (take e row ++ y ∷ []) m best =
       subst (λ (i : ℕ). Sofar n m joined price barred cuts (take e row ++ y ∷ []) i best) last (subst (λ (r : List ℕ). Sofar n m joined price barred cuts r x best) split h.sofar) in
       let s₂ = sofar_back n m joined price barred cuts (take e row) y best (omega (arith, length-take-le e row (omega arith), h.deep)) s₁ in
@@ -109,7 +109,7 @@ module _ (n m : ℕ) (joined price : ℕ → ℕ → ℕ) (barred : ℕ → ℕ 
         next = omega (arith, here, parts.1);
         row_long = length-set row e (y + 1) ∙ h.row_long;
         totals_long = h.totals_long;
-        within = subst (λ (r : List ℕ). All (λ z. z < m) r) (sym same) parts.0;
+        within = subst (λ (r : List ℕ). AllByRecursion (λ z. z < m) r) (sym same) parts.0;
         permitted = subst (λ (r : List ℕ). Permits barred r) (sym same) (permits_front barred (take e row) y (subst (λ (r : List ℕ). Permits barred r) split h.permitted));
         obeying = subst (λ (r : List ℕ). Obeys r cuts) (sym same) (obeys_shorter (take e row) (take e row ++ y ∷ []) cuts (gives_still (take e row) y) (subst (λ (r : List ℕ). Obeys r cuts) split h.obeying));
         grouped = λ p l. subst (λ (r : List ℕ). Group r p (group_at groups' p)) (sym same) (
@@ -210,7 +210,7 @@ module _ (n m : ℕ) (joined price : ℕ → ℕ → ℕ) (barred : ℕ → ℕ 
   before_below e q =
       let in_row : e < length row = omega (arith, h.row_long, h.deep, h.few) in
       let split : take d row ≡ take e row ++ get_or row e 0 ∷ [] = ap (λ (i : ℕ). take i row) q ∙ take_more row e 0 in_row in
-      (all_front (λ z. z < m) (take e row) (get_or row e 0) (subst (λ (r : List ℕ). All (λ z. z < m) r) split h.within)).1
+      (all_front (λ z. z < m) (take e row) (get_or row e 0) (subst (λ (r : List ℕ). AllByRecursion (λ z. z < m) r) split h.within)).1
 
 getD_replicate_zero : (c k : ℕ) → ◌≡◌ {A = ℕ} (get_or (replicate c 0) k 0) 0
 getD_replicate_zero zero k = refl

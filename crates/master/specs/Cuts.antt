@@ -1,6 +1,6 @@
 -- Cuts, and the table that holds them in the order in which they were put.
 use Rattle.std.specs.Prelude.{◌≡◌, ℕ, ◌<◌, ◌≤◌, List, [], ◌∷◌, ◌++◌, length, Ok, Err, Result}
-use Rattle.std.specs.List.{AllByRecursion as All}
+use Rattle.std.specs.List.{AllByRecursion}
 use Rattle.jobs.specs.Sets.{bits, Has, Part}
 use Rattle.jobs.specs.Words.{Same}
 use Rattle.jobs.specs.declared.refusal.Refusal.{Refusal}
@@ -24,7 +24,7 @@ Breaks row c = (job : ℕ) → Has (bits c.set) job → Gives row job c.place
 
 -- the row breaks none of the cuts
 abbrev pub Obeys : List ℕ → List Cut → Type 0
-Obeys row cuts = All (λ c. Breaks row c → ⊥) cuts
+Obeys row cuts = AllByRecursion (λ c. Breaks row c → ⊥) cuts
 
 -- c and d are cuts of one place, and c's set is a part of d's
 pub record Within (c d : Cut) : Type 0 where

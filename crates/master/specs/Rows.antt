@@ -1,6 +1,6 @@
 -- Rows: the place of each job, from job 0 on.
 use Rattle.std.specs.Prelude.{◌≡◌, ℕ, suc, ◌<◌, Bool, false, ◌⊎◌, List, [], ◌∷◌, length, take, Some}
-use Rattle.std.specs.List.{AllByRecursion as All, slice_get}
+use Rattle.std.specs.List.{AllByRecursion, slice_get}
 use Rattle.jobs.specs.Sets.{Has}
 use Rattle.jobs.specs.Words.{Same}
 use Rattle.master.specs.declared.row.Row.{Row}
@@ -20,7 +20,7 @@ Group row place set = (job : ℕ) → Same (Has set job) (Gives row job place)
 -- each of n jobs has one of m places
 pub record Assigns (n m : ℕ) (row : List ℕ) : Type 0 where
   pub jobs : length row ≡ n
-  pub places : All (λ place. place < m) row
+  pub places : AllByRecursion (λ place. place < m) row
 
 -- no job has a place that is barred to it
 abbrev pub Permits : (ℕ → ℕ → Bool) → List ℕ → Type 0

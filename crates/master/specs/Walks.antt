@@ -1,7 +1,7 @@
 -- Inner: how far the search has come. No public contract cites what stands here.
 -- Rows are taken in order; `pre` has the places of the first jobs, and `x` is the next place to try for the job after them.
 use Rattle.std.specs.Prelude.{◌≡◌, ℕ, ◌+◌, ◌-◌, ◌*◌, ◌^◌, ◌<◌, ◌≤◌, Bool, true, false, ◌⊎◌, List, [], ◌∷◌, ◌++◌, length, get_or, take, IfSome, Some, Option, MatchOption, ◌≢◌, slice_index, slice_index_or, slice_set}
-use Rattle.std.specs.List.{AllByRecursion as All}
+use Rattle.std.specs.List.{AllByRecursion}
 use Rattle.jobs.specs.Sets.{width, bits, Has}
 use Rattle.jobs.specs.Words.{Same}
 use Rattle.master.specs.Cuts.{Obeys}
@@ -117,7 +117,7 @@ module _ (n m : ℕ) (joined price : ℕ → ℕ → ℕ) (barred : ℕ → ℕ 
     pub next : get_or row d 0 ≤ m
     pub row_long : length row ≡ width
     pub totals_long : length totals ≡ width
-    pub within : All (λ x. x < m) (take d row)
+    pub within : AllByRecursion (λ x. x < m) (take d row)
     pub permitted : Permits barred (take d row)
     pub obeying : Obeys (take d row) cuts
     pub grouped : (p : ℕ) → p < m → Group (take d row) p (group_at groups p)

@@ -1,6 +1,6 @@
 -- What a judgement comes to, place by place.
 use Rattle.std.proofs.Common.{◌≡◌, ℕ, suc, ◌+◌, ◌^◌, ◌<◌, ◌≤◌, Bool, true, false, ◌≢◌, List, length, sym, refl, ap, subst, inl, inr, ⊎_elim, arith}
-use Rattle.std.specs.List.{AllByRecursion as All}
+use Rattle.std.specs.List.{AllByRecursion}
 use Rattle.std.proofs.ByRecursion.{All-weaker, All-push}
 use Rattle.std.proofs.lemmas.List.{length_push}
 use Rattle.std.proofs.lemmas.Bool.{cases_eq, false≢true}
@@ -47,8 +47,8 @@ module _ {W J : Type 0} (m : Meaning W) (joins : J → ℕ → ℕ → ℕ) (w :
     -- with the places below the given one judged
     pub record Progress (old : List Cut) (place : ℕ) (v : W) (cs : List Cut) (count : ℕ) (all : Bool) : Type 0 where
       pub faithful : Faithful m w v
-      pub minimal : All (Minimal m joins w measure n) cs
-      pub fresh : All (Fresh row place) cs
+      pub minimal : AllByRecursion (Minimal m joins w measure n) cs
+      pub fresh : AllByRecursion (Fresh row place) cs
       pub number : length cs ≡ length old + count
       pub unanimous : all ≡ true → count ≡ 0
       pub opposed : all ≡ false → 0 < count
@@ -63,7 +63,7 @@ module _ {W J : Type 0} (m : Meaning W) (joins : J → ℕ → ℕ → ℕ) (w :
 
     pub record Ended (old : List Cut) (o : Outcome) (v : W) (cs : List Cut) : Type 0 where
       pub faithful : Faithful m w v
-      pub minimal : All (Minimal m joins w measure n) cs
+      pub minimal : AllByRecursion (Minimal m joins w measure n) cs
       pub number : length cs ≡ length old + tallied o
       pub tells : Tells o v cs
 
@@ -92,7 +92,7 @@ module _ {W J : Type 0} (m : Meaning W) (joins : J → ℕ → ℕ → ℕ) (law
       record { faithful = h.0; part = s.part; minimal = record { place = lt; fails = s.fails; nearly = s.tight } }
 
   module _ (row : List ℕ) where
-    fresh_next : (place : ℕ) (cs : List Cut) → All (Fresh row place) cs → All (Fresh row (suc place)) cs
+    fresh_next : (place : ℕ) (cs : List Cut) → AllByRecursion (Fresh row place) cs → AllByRecursion (Fresh row (suc place)) cs
     fresh_next place cs h = All-weaker (Fresh row place) (Fresh row (suc place)) (λ d f. ⊎_elim inl (λ (lt : d.place < place). inr (omega arith)) f) cs h
 
     -- the place said yes
@@ -123,15 +123,15 @@ module _ {W J : Type 0} (m : Meaning W) (joins : J → ℕ → ℕ → ℕ) (law
         put_last m joins laws w measure n c r.minimal.fails cs cs' a h.minimal (never_covered row place set t cs g r.part h.fresh) few ad in
         record {
           faithful = r.faithful;
-          minimal = subst (λ (xs : List Cut). All (Minimal m joins w measure n) xs) (sym l.cuts) (All-push (Minimal m joins w measure n) cs c h.minimal r.minimal);
-          fresh = subst (λ (xs : List Cut). All (Fresh row (suc place)) xs) (sym l.cuts) (All-push (Fresh row (suc place)) cs c (fresh_next place cs h.fresh) (inr (omega arith)));
+          minimal = subst (λ (xs : List Cut). AllByRecursion (Minimal m joins w measure n) xs) (sym l.cuts) (All-push (Minimal m joins w measure n) cs c h.minimal r.minimal);
+          fresh = subst (λ (xs : List Cut). AllByRecursion (Fresh row (suc place)) xs) (sym l.cuts) (All-push (Fresh row (suc place)) cs c (fresh_next place cs h.fresh) (inr (omega arith)));
           number = omega (arith, ap length l.cuts, length_push cs c, ap tally l.answer, h.number);
           unanimous = λ e. absurd (false≢true e);
           opposed = λ e. omega (arith, ap tally l.answer);
           scheduled = λ e q s x k. absurd (false≢true e);
         }
 
-    pub progress : length row ≤ width → (u : W) (old : List Cut) → Faithful m w u → All (Minimal m joins w measure n) old → Obeys row old
+    pub progress : length row ≤ width → (u : W) (old : List Cut) → Faithful m w u → AllByRecursion (Minimal m joins w measure n) old → Obeys row old
         → (place : ℕ) (v : W) (cs : List Cut) (count : ℕ) (all : Bool) → place ≤ m.count w → Judges m u old row place v cs count all → Progress m joins w measure n row old place v cs count all
     progress short u old f min obeys place v cs count all le judges_start = record {
       faithful = f;
@@ -173,7 +173,7 @@ module _ {W J : Type 0} (m : Meaning W) (joins : J → ℕ → ℕ → ℕ) (law
       tells = (lt, whole, λ s k y. said_no m laws w v v' place set h.faithful lt ask (subst (λ (i : ℕ). m.family w place i) (group_once row place s set k g) y));
     }
 
-    pub ended : length row ≤ width → (u : W) (old : List Cut) → Faithful m w u → All (Minimal m joins w measure n) old → Obeys row old
+    pub ended : length row ≤ width → (u : W) (old : List Cut) → Faithful m w u → AllByRecursion (Minimal m joins w measure n) old → Obeys row old
         → (o : Outcome) (v : W) (cs : List Cut) → Ends m u old row (m.count w) o v cs → Ended m joins w measure n row old o v cs
     ended short u old f min obeys o v cs (agreed v₁ cs₁ count j) =
         let h = progress short u old f min obeys (m.count w) v cs count true (omega arith) j in

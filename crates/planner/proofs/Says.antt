@@ -1,6 +1,6 @@
 -- Each answer of a planner is right, given what it keeps true of itself and what its list says.
 use Rattle.std.proofs.Common.{◌≡◌, ℕ, ◌+◌, ◌<◌, ◌≤◌, Bool, List, Some, None, sym, refl, ap, subst, ⊎_elim, arith}
-use Rattle.std.specs.List.{AllByRecursion as All}
+use Rattle.std.specs.List.{AllByRecursion}
 use Rattle.std.proofs.ByRecursion.{All-weaker}
 use Rattle.jobs.specs.Sets.{bits}
 use Rattle.jobs.specs.Words.{Same}
@@ -50,7 +50,7 @@ best_least n m joined prices barred cuts row cost b other c = ⊎_elim
 
 module _ {W J : Type 0} (m : Meaning W) (joins : J → ℕ → ℕ → ℕ) (laws : Lawful m) (w : W) (measure : J) (n : ℕ) where
   -- what all places can schedule breaks no minimal cut
-  feasible_candidate : (barred : ℕ → ℕ → Bool) (cuts : List Cut) → All (Minimal m joins w measure n) cuts → (row : List ℕ) → Feasible m joins w measure n barred row
+  feasible_candidate : (barred : ℕ → ℕ → Bool) (cuts : List Cut) → AllByRecursion (Minimal m joins w measure n) cuts → (row : List ℕ) → Feasible m joins w measure n barred row
       → Candidate n (m.count w) barred cuts row
   feasible_candidate barred cuts minimal row f = record {
     assigns = f.assigns;

@@ -1,6 +1,6 @@
 -- What every planner that was made and then only called keeps true of itself, whatever the calls were.
 use Rattle.std.proofs.Common.{◌≡◌, ℕ, ◌≤◌, Bool, true, false, ◌&&◌, leb, List, length, Some, None, Option, sym, refl, ap, ◌∙◌, subst, arith}
-use Rattle.std.specs.List.{AllByRecursion as All}
+use Rattle.std.specs.List.{AllByRecursion}
 use Rattle.std.proofs.lemmas.Bool.{leb-true, and_parts}
 use Rattle.jobs.specs.Sets.{width}
 use Rattle.jobs.specs.declared.refusal.Refusal.TheVariants.{JobsOutOfRange, PlacesOutOfRange}
@@ -45,7 +45,7 @@ few_jobs n places e = leb-true n width (and_parts (leb 1 n) (leb n width) (fine 
 module _ {W J : Type 0} (m : Meaning W) (joins : J → ℕ → ℕ → ℕ) (w : W) (measure : J) (n : ℕ) where
   pub record Upright (s : State W J) : Type 0 where
     pub faithful : Faithful m w s.workshop
-    pub minimal : All (Minimal m joins w measure n) s.cuts
+    pub minimal : AllByRecursion (Minimal m joins w measure n) s.cuts
     -- what is pending is the best at the prices, bars and cuts held
     pub best : (row : List ℕ) (cost : ℕ) → s.pending ≡ Some (row, cost) → BestOf m joins s row cost
 

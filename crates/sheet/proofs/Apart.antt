@@ -2,12 +2,12 @@
 use Rattle.std.proofs.Common.{◌≡◌, ℕ, suc, List, [], ◌∷◌, ◌++◌, drop, codes, sym, refl, ap, ◌∙◌, subst, arith}
 use Rattle.std.proofs.lemmas.List.{append_assoc, append_cancel_left}
 use Rattle.std.specs.Str.Parse.{digits_value}
-use Rattle.std.specs.List.{AllByRecursion as All}
+use Rattle.std.specs.List.{AllByRecursion}
 use Rattle.sheet.specs.Sheets.{numeral, pair, title, placing, feed, head, line, lines, no_tail, ToldApart}
 use Rattle.sheet.proofs.Numbers.{Figure, figures_numeral, value_numeral}
 
 -- two runs of digits, each up to the first byte that is none
-split : (xs ys : List ℕ) (c d : ℕ) (s t : List ℕ) → All Figure xs → All Figure ys → (Figure c → ⊥) → (Figure d → ⊥) → xs ++ c ∷ s ≡ ys ++ d ∷ t → (xs ≡ ys) × (c ∷ s ≡ d ∷ t)
+split : (xs ys : List ℕ) (c d : ℕ) (s t : List ℕ) → AllByRecursion Figure xs → AllByRecursion Figure ys → (Figure c → ⊥) → (Figure d → ⊥) → xs ++ c ∷ s ≡ ys ++ d ∷ t → (xs ≡ ys) × (c ∷ s ≡ d ∷ t)
 split [] [] c d s t f g nc nd e = (refl, e)
 split [] (y ∷ ys) c d s t f g nc nd e = let h : c ≡ y = cc in absurd (nc (subst Figure (sym h) g.0))
 split (x ∷ xs) [] c d s t f g nc nd e = let h : x ≡ d = cc in absurd (nd (subst Figure h f.0))

@@ -7,7 +7,7 @@ use Rattle.std.proofs.lemmas.Bool.{cases_eq}
 use Rattle.std.specs.Str.Parse.{digits_value}
 use Rattle.std.specs.Char.{digit_value}
 use Rattle.std.specs.Int.Digits.{digits_of, AllBelowBase, number_from_digits}
-use Rattle.std.specs.List.{AllByRecursion as All}
+use Rattle.std.specs.List.{AllByRecursion}
 use Rattle.sheet.specs.Puts.{figures}
 use Rattle.sheet.specs.Sheets.{numeral, Plain}
 
@@ -114,10 +114,10 @@ plain n = record { reads = value_numeral n; first = first_numeral n }
 abbrev pub Figure : ℕ → Type 0
 Figure c = (48 ≤ c) × (c ≤ 57)
 
-all_figures : (ds : List ℕ) (d : ℕ) → AllBelowBase 10 ds → d < 10 → All Figure (map (λ d. 48 + d) ds ++ (48 + d) ∷ [])
+all_figures : (ds : List ℕ) (d : ℕ) → AllBelowBase 10 ds → d < 10 → AllByRecursion Figure (map (λ d. 48 + d) ds ++ (48 + d) ∷ [])
 all_figures [] d u h = ((omega arith, omega arith), tt)
 all_figures (e ∷ ds) d u h = let l : e < 10 = u.0 in ((omega arith, omega arith), all_figures ds d u.1 h)
 
-pub figures_numeral : (n : ℕ) → All Figure (numeral n)
+pub figures_numeral : (n : ℕ) → AllByRecursion Figure (numeral n)
 unfolding numeral
 figures_numeral n = all_figures (digits_of 10 (n / 10)) (n % 10) (all_below_base_digits_of 10 (n / 10) (omega arith)) (omega arith)
