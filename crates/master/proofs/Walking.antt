@@ -212,10 +212,10 @@ module _ (n m : ℕ) (joined price : ℕ → ℕ → ℕ) (barred : ℕ → ℕ 
       let split : take d row ≡ take e row ++ get_or row e 0 ∷ [] = ap (λ (i : ℕ). take i row) q ∙ take_more row e 0 in_row in
       (all_front (λ z. z < m) (take e row) (get_or row e 0) (subst (λ (r : List ℕ). AllByRecursion (λ z. z < m) r) split h.within)).1
 
-getD_replicate_zero : (c k : ℕ) → ◌≡◌ {A = ℕ} (get_or (replicate c 0) k 0) 0
-getD_replicate_zero zero k = refl
-getD_replicate_zero (suc c) zero = refl
-getD_replicate_zero (suc c) (suc k) = getD_replicate_zero c k
+get_or_replicate_zero : (c k : ℕ) → ◌≡◌ {A = ℕ} (get_or (replicate c 0) k 0) 0
+get_or_replicate_zero zero k = refl
+get_or_replicate_zero (suc c) zero = refl
+get_or_replicate_zero (suc c) (suc k) = get_or_replicate_zero c k
 
 -- where the search starts
 pub walk_start : (n m : ℕ) (joined price : ℕ → ℕ → ℕ) (barred : ℕ → ℕ → Bool) (cuts : List Cut) (groups : Groups) → 0 < n → n ≤ width → Obeys [] cuts → ((p : ℕ) → group_at groups p ≡ 0)
@@ -231,7 +231,7 @@ walk_start n m joined price barred cuts groups some few ok empty = record {
   obeying = ok;
   grouped = λ p l. subst (λ (s : ℕ). Group [] p s) (sym (empty p)) (group_none p 0 none_in_zero);
   noted = λ k l. let z : k ≡ 0 = omega arith in subst (λ (i : ℕ). get_or (replicate width 0) i 0 ≡ costs joined price (take i (replicate width 0))) (sym z) refl;
-  spare = λ k l. getD_replicate_zero width k;
+  spare = λ k l. get_or_replicate_zero width k;
   sofar = sofar_start n m joined price barred cuts;
 }
 

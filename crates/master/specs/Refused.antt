@@ -5,7 +5,7 @@ use Rattle.jobs.specs.declared.refusal.Refusal.TheVariants.{JobsOutOfRange, Plac
 use Rattle.jobs.specs.Refusals.{unless}
 use Rattle.jobs.specs.Sets.{width}
 
--- how many places there are at most: their numbers are 0 to most-places - 1
+-- how many places there are at most: their numbers are 0 to most_places - 1
 abbrev pub most_places : ℕ
 most_places = 8
 

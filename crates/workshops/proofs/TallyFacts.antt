@@ -42,10 +42,10 @@ exactly_true true F t = t
 exactly_true false F t = t
 
 -- a set that is there does not depend on the default
-get_d_default : (sets : List JobSet) (n : ℕ) (c d : JobSet) → n < length sets → get_or sets n d ≡ get_or sets n c
-get_d_default [] n c d l = absurd (omega arith)
-get_d_default (s ∷ sets) zero c d l = refl
-get_d_default (s ∷ sets) (suc n) c d l = get_d_default sets n c d (omega arith)
+get_or_default : (sets : List JobSet) (n : ℕ) (c d : JobSet) → n < length sets → get_or sets n d ≡ get_or sets n c
+get_or_default [] n c d l = absurd (omega arith)
+get_or_default (s ∷ sets) zero c d l = refl
+get_or_default (s ∷ sets) (suc n) c d l = get_or_default sets n c d (omega arith)
 
 module _ {W : Type 0} (m : Meaning W) where
   exact_told : (w : W) (p : ℕ) (sets : List JobSet) (ys : List Bool) → length ys ≤ length sets → AllTold m w (questions p sets ys) → Exact (m.family w p) sets ys
@@ -116,7 +116,7 @@ module _ {W : Type 0} (m : Meaning W) where
           yes = g.yes;
           ends = (
             omega (arith, g.answered),
-            get_d_default sets (length ys) d f.set (omega (arith, g.answered)) ∙ ap (λ i. get_or sets i d) (sym g.answered) ∙ sym same,
+            get_or_default sets (length ys) d f.set (omega (arith, g.answered)) ∙ ap (λ i. get_or sets i d) (sym g.answered) ∙ sym same,
             all,
             (steady.again u v p f.set f step).1,
           );
