@@ -1,15 +1,15 @@
-// Answers as numbers, to stand in a table.
+// How a call was refused, to stand in a table.
 ghost use Rattle.std.specs.Prelude.{◌≡◌};
-ghost use Rattle.checks.specs.Answers.{number_or_none};
+ghost use Rattle.checks.specs.Answers.{refused_with};
 
 use jobs::refusal::Refusal;
 
-// The number of the refusal, or 0 where there is none.
-pub fn number_of(answer: Result<(), Refusal>) -> u8
-    ensures { result ≡ number_or_none answer }
+// The number of the refusal, if there is one.
+pub fn number_of(answer: Result<(), Refusal>) -> Option<u8>
+    ensures { result ≡ refused_with answer }
 {
     match answer {
-        Ok(()) => 0,
-        Err(refusal) => refusal.number(),
+        Ok(()) => None,
+        Err(refusal) => Some(refusal.number()),
     }
 }

@@ -1,5 +1,4 @@
 // Which tasks fit, by trying all starts. Nothing here is shared with the search.
-ghost use Rattle.std.specs.Prelude.{◌<◌};
 
 // How many tasks an instance has, how many hours, and how many ways there are to start all tasks.
 pub const COUNT: usize = 4;
@@ -30,6 +29,11 @@ impl Task {
     fn runs_at(self, start: u32, hour: u32) -> bool {
         start <= hour && hour - start < self.takes
     }
+
+    // Whether one of the two tasks ends by the start of the other, or they need not.
+    fn alone(self, start: u32, other: Task, later: u32) -> bool {
+        !self.wanted || !other.wanted || self.ends_by(start, later) || other.ends_by(later, start)
+    }
 }
 
 // The tasks that are wanted are to fit.
@@ -51,28 +55,16 @@ fn starts_of(way: u32) -> [u32; COUNT] {
 
 impl Instance {
     fn windows_kept(&self, starts: &[u32; COUNT]) -> bool {
-        for i in 0..COUNT {
-            if self.tasks[i].wanted && !self.tasks[i].fits_window(starts[i]) {
-                return false;
-            }
-        }
-        true
-    }
-
-    // Whether one of the two tasks ends by the start of the other, or they need not.
-    fn alone(&self, starts: &[u32; COUNT], i: usize, j: usize) -> bool
-        requires { (i < 4) × (j < 4) }
-    {
-        if i == j || !self.tasks[i].wanted || !self.tasks[j].wanted {
-            return true;
-        }
-        self.tasks[i].ends_by(starts[i], starts[j]) || self.tasks[j].ends_by(starts[j], starts[i])
+        self.tasks
+            .iter()
+            .zip(starts)
+            .all(|(task, start)| !task.wanted || task.fits_window(*start))
     }
 
     fn one_by_one(&self, starts: &[u32; COUNT]) -> bool {
-        for i in 0..COUNT {
-            for j in 0..COUNT {
-                if !self.alone(starts, i, j) {
+        for (i, (task, start)) in self.tasks.iter().zip(starts).enumerate() {
+            for (other, later) in self.tasks.iter().zip(starts).take(i) {
+                if !task.alone(*start, *other, *later) {
                     return false;
                 }
             }
@@ -82,46 +74,31 @@ impl Instance {
 
     fn fed_at(&self, starts: &[u32; COUNT], hour: u32) -> bool {
         let mut left = self.supply;
-        for i in 0..COUNT {
-            let task = self.tasks[i];
-            if task.wanted && task.runs_at(starts[i], hour) {
-                if task.draw > left {
+        for (task, start) in self.tasks.iter().zip(starts) {
+            if task.wanted && task.runs_at(*start, hour) {
+                let Some(less) = left.checked_sub(task.draw) else {
                     return false;
-                }
-                left -= task.draw;
+                };
+                left = less;
             }
         }
         true
     }
 
     fn fed(&self, starts: &[u32; COUNT]) -> bool {
-        for hour in 0..HOURS {
-            if !self.fed_at(starts, hour) {
-                return false;
-            }
-        }
-        true
+        (0..HOURS).all(|hour| self.fed_at(starts, hour))
     }
 
     // Whether some starts let the tasks run one after the other.
     pub fn fits_one_by_one(&self) -> bool {
-        for way in 0..WAYS {
-            let starts = starts_of(way);
-            if self.windows_kept(&starts) && self.one_by_one(&starts) {
-                return true;
-            }
-        }
-        false
+        (0..WAYS).map(starts_of).any(|starts| self.windows_kept(&starts)
+            && self.one_by_one(&starts))
     }
 
     // Whether some starts keep all draws within the supply.
     pub fn fits_supply(&self) -> bool {
-        for way in 0..WAYS {
-            let starts = starts_of(way);
-            if self.windows_kept(&starts) && self.fed(&starts) {
-                return true;
-            }
-        }
-        false
+        (0..WAYS)
+            .map(starts_of)
+            .any(|starts| self.windows_kept(&starts) && self.fed(&starts))
     }
 }

@@ -16,10 +16,8 @@ pub fn set_of(jobs: &[u32]) -> Result<JobSet, Refusal> {
 // A bench with these rows (from, for, by) for the jobs from 0 on.
 pub fn bench_of(rows: &[[u32; 3]]) -> Result<Bench, Refusal> {
     let mut bench = Bench::new();
-    let mut job = 0u32;
-    for [release, takes, due] in rows {
+    for (job, [release, takes, due]) in (0..u32::MAX).zip(rows) {
         bench.row(job, *release, *takes, *due)?;
-        job = job.wrapping_add(1);
     }
     Ok(bench)
 }
@@ -27,10 +25,8 @@ pub fn bench_of(rows: &[[u32; 3]]) -> Result<Bench, Refusal> {
 // A stand with this supply and these rows (from, for, by, draw) for the jobs from 0 on.
 pub fn stand_of(supply: u32, rows: &[[u32; 4]]) -> Result<Stand, Refusal> {
     let mut stand = Stand::new(supply);
-    let mut job = 0u32;
-    for [release, takes, due, draw] in rows {
+    for (job, [release, takes, due, draw]) in (0..u32::MAX).zip(rows) {
         stand.row(job, *release, *takes, *due, *draw)?;
-        job = job.wrapping_add(1);
     }
     Ok(stand)
 }

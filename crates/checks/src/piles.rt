@@ -26,7 +26,7 @@ const EASY: [[u32; 3]; 7] = [
 ];
 
 fn stop(cause: u8, depth: u8, place: u8, set: JobSet) -> Reply {
-    Reply::Stop(Fault {
+    Err(Fault {
         cause,
         depth,
         place,
@@ -79,7 +79,7 @@ fn allowance_is_held(rt: HostRuntime) -> Result<(), Fail> {
     allowance.grant(65535);
     allowance.grant(9);
     for _ in 0..65535u32 {
-        assert_eq!(rt; allowance.verdict(0, none)?, Reply::Yes);
+        assert_eq!(rt; allowance.verdict(0, none)?, Ok(true));
     }
     assert_eq!(rt; allowance.verdict(0, none)?, stop(SPENT, 0, 0, none));
     Ok(())
@@ -90,16 +90,16 @@ fn sixty_fifth_drops_first(rt: HostRuntime) -> Result<(), Fail> {
     let first = set_of(&[0])?;
     let mut memo = pile_up(bench_of(&EASY)?, bench_of(&EASY)?);
     memo.grant(65);
-    assert_eq!(rt; memo.verdict(1, first)?, Reply::Yes);
+    assert_eq!(rt; memo.verdict(1, first)?, Ok(true));
     for number in 0..63u32 {
-        assert_eq!(rt; memo.verdict(0, numbered(number)?)?, Reply::Yes);
+        assert_eq!(rt; memo.verdict(0, numbered(number)?)?, Ok(true));
     }
     assert_eq!(rt;
         memo.verdict(1, first)?,
-        Reply::Yes,
+        Ok(true),
         "still known, so nothing is spent"
     );
-    assert_eq!(rt; memo.verdict(0, numbered(63)?)?, Reply::Yes);
+    assert_eq!(rt; memo.verdict(0, numbered(63)?)?, Ok(true));
     assert_eq!(rt; memo.verdict(1, first)?, stop(SPENT, 1, 1, first));
     Ok(())
 }
@@ -109,9 +109,9 @@ fn stop_is_not_a_no(rt: HostRuntime) -> Result<(), Fail> {
     let mut memo = Memo::new(Allowance::new(lone(&EASY)?));
     let later = set_of(&[1])?;
     memo.grant(1);
-    assert_eq!(rt; memo.verdict(0, set_of(&[0])?)?, Reply::Yes);
+    assert_eq!(rt; memo.verdict(0, set_of(&[0])?)?, Ok(true));
     assert_eq!(rt; memo.verdict(0, later)?, stop(SPENT, 1, 0, later));
     memo.grant(1);
-    assert_eq!(rt; memo.verdict(0, later)?, Reply::Yes);
+    assert_eq!(rt; memo.verdict(0, later)?, Ok(true));
     Ok(())
 }

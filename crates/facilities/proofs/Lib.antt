@@ -1,8 +1,7 @@
 pub mod Entries
 pub mod Feeding
 pub mod Firsts
-pub mod Fronts
+pub mod Hours
 pub mod Positions
 pub mod Shrinking
 pub mod Turns
-pub mod Verdicts

@@ -2,7 +2,7 @@
 use Rattle.std.proofs.Common.{◌≡◌, ℕ, ◌+◌, ◌<◌, ◌≤◌, true, false, List, [], ◌∷◌, ◌++◌, length, sym, ap, ◌∙◌, subst, ⊎_elim, append_assoc, arith, length-append}
 use Rattle.std.proofs.lemmas.List.{same_from_push}
 use Rattle.facilities.specs.Trials.{Took, Gave, Within, Solves, First}
-use Rattle.facilities.proofs.Positions.{Passed, passed_none, passed_all, passed_down, passed_next, passed_front, passed_back, before_passed, within_push, within_front, within_last, left, left_down, left_next, left_up}
+use Rattle.facilities.proofs.Positions.{Passed, passed_none, passed_down, passed_next, passed_front, passed_back, before_passed, within_push, within_front, within_last, left, left_down, left_next, left_up}
 
 -- the choices p are taken, `next` is to be tried, and no solution stands before that
 pub record Position (allowed : List ℕ → Type 0) (levels choices : ℕ) (p : List ℕ) (next : ℕ) : Type 0 where
@@ -28,9 +28,6 @@ module _ (allowed : List ℕ → Type 0) (levels choices : ℕ) where
     solves = record { full = l; within = s.within; stands = s.stands };
     least = λ ys y h. s.passed ys y (before_passed ys p c h);
   }
-
-  pub over : 0 < levels → Position allowed levels choices [] choices → (ys : List ℕ) → Solves allowed levels choices ys → ⊥
-  over l s ys y = s.passed ys y (passed_all choices ys (omega (arith, y.full)) y.within)
 
 module _ (allowed : List ℕ → Type 0) (levels choices : ℕ) (fronts : (xs ys : List ℕ) → allowed (xs ++ ys) → allowed xs) where
   -- a solution that begins with p and c has them allowed
@@ -118,9 +115,3 @@ module _ (allowed : List ℕ → Type 0) (levels choices : ℕ) (found : List �
   pub all_found : (a b : ℕ) → levels ≡ a → choices ≡ b → levels ≤ length found → First allowed a b found
   all_found a b e f l =
       subst (λ n. First allowed n b found) e (subst (λ n. First allowed levels n found) f (done allowed levels choices found next (omega (arith, s.short)) s.position))
-
-  pub none_found : (a b : ℕ) → levels ≡ a → choices ≡ b → choices ≤ next → length found < levels → found ≡ [] → (ys : List ℕ) → Solves allowed a b ys → ⊥
-  none_found a b e f l m empty =
-      let n : next ≡ choices = omega (arith, s.position.most) in
-      subst (λ n. (ys : List ℕ) → Solves allowed n b ys → ⊥) e (subst (λ n. (ys : List ℕ) → Solves allowed levels n ys → ⊥) f
-      (over allowed levels choices (omega arith) (subst (Position allowed levels choices []) n (subst (λ x. Position allowed levels choices x next) empty s.position))))

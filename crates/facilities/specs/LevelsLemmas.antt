@@ -1,7 +1,8 @@
 -- Choices given to jobs one after the other, over any rule of fit and any amount.
 use Rattle.std.specs.Prelude.{◌≡◌, ℕ, ◌+◌, ◌<◌, ◌≤◌, List, [], ◌∷◌, ◌++◌, map, length, sum_by, ◌==◌, ◌≢◌, slice_index, refl}
 use Rattle.std.proofs.Common.{ap, ◌∙◌, arith}
-use Rattle.std.specs.List.{AllByRecursion}
+use Rattle.std.specs.List.{All}
+use Rattle.std.proofs.lemmas.List.Elements.{All-nil, All-cons, All-head, All-tail}
 use Rattle.std.proofs.lemmas.List.Sums.{sum_by-cons}
 use Rattle.std.proofs.lemmas.Bool.{eq-eqb, ne_eqb, cond-true, cond-false}
 use Rattle.facilities.specs.Trials.{Within}
@@ -37,13 +38,13 @@ module _ (fit : ℕ → ℕ → Type 0) where
   given_within n below (j ∷ js) (x ∷ xs) g = (below j x g.0, given_within n below js xs g.1)
 
   -- all jobs have the choices that a function gives them
-  pub given_map : (start : ℕ → ℕ) (js : List ℕ) → AllByRecursion (λ j. fit j (start j)) js → Given fit js (map start js)
+  pub given_map : (start : ℕ → ℕ) (js : List ℕ) → All (λ j. fit j (start j)) js → Given fit js (map start js)
   given_map start [] a = tt
-  given_map start (j ∷ js) a = (a.0, given_map start js a.1)
+  given_map start (j ∷ js) a = (All-head (λ i. fit i (start i)) j js a, given_map start js (All-tail (λ i. fit i (start i)) j js a))
 
-  pub map_given : (start : ℕ → ℕ) (js : List ℕ) → Given fit js (map start js) → AllByRecursion (λ j. fit j (start j)) js
-  map_given start [] g = tt
-  map_given start (j ∷ js) g = (g.0, map_given start js g.1)
+  pub map_given : (start : ℕ → ℕ) (js : List ℕ) → Given fit js (map start js) → All (λ j. fit j (start j)) js
+  map_given start [] g = All-nil (λ i. fit i (start i))
+  map_given start (j ∷ js) g = All-cons (λ i. fit i (start i)) j js g.0 (map_given start js g.1)
 
 module _ (amount : ℕ → ℕ → ℕ) where
   pub total_front : (js xs ys : List ℕ) → total amount js xs ≤ total amount js (xs ++ ys)
@@ -64,14 +65,14 @@ module _ (amount : ℕ → ℕ → ℕ) where
 -- no job stands twice in the list
 abbrev pub Apart : List ℕ → Type 0
 Apart [] = Unit {0}
-Apart (j ∷ js) = AllByRecursion (λ i. i ≢ j) js × Apart js
+Apart (j ∷ js) = All (λ i. i ≢ j) js × Apart js
 
 -- a function that differs from another at j only gives the same to other jobs
-choice_later : (js : List ℕ) (xs : List ℕ) (j x : ℕ) (is : List ℕ) → AllByRecursion (λ i. i ≢ j) is → map (choice_of (j ∷ js) (x ∷ xs)) is ≡ map (choice_of js xs) is
+choice_later : (js : List ℕ) (xs : List ℕ) (j x : ℕ) (is : List ℕ) → All (λ i. i ≢ j) is → map (choice_of (j ∷ js) (x ∷ xs)) is ≡ map (choice_of js xs) is
 choice_later js xs j x [] a = refl
 choice_later js xs j x (i ∷ is) a =
-    ap (λ (k : ℕ). k ∷ map (choice_of (j ∷ js) (x ∷ xs)) is) (cond-false (i == j) x (choice_of js xs i) (ne_eqb i j a.0))
-    ∙ ap (λ (ks : List ℕ). choice_of js xs i ∷ ks) (choice_later js xs j x is a.1)
+    ap (λ (k : ℕ). k ∷ map (choice_of (j ∷ js) (x ∷ xs)) is) (cond-false (i == j) x (choice_of js xs i) (ne_eqb i j (All-head (λ k. k ≢ j) i is a)))
+    ∙ ap (λ (ks : List ℕ). choice_of js xs i ∷ ks) (choice_later js xs j x is (All-tail (λ k. k ≢ j) i is a))
 
 -- the choices of a full list are those that its jobs were given
 pub choices_back : (js xs : List ℕ) → Apart js → length xs ≡ length js → map (choice_of js xs) js ≡ xs

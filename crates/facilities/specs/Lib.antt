@@ -1,5 +1,4 @@
 pub mod Benches
-pub mod Choices
 pub mod Draws
 pub mod Levels
 pub mod Lines

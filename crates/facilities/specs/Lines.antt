@@ -1,13 +1,20 @@
 -- The line of jobs with which the search tries the bench. This is inner: no public call speaks of it.
-use Rattle.std.specs.Prelude.{◌≡◌, ℕ, ◌<◌, List, [], ◌∷◌, length, take, Some, None, Option, slice_index_or}
+use Rattle.std.specs.Prelude.{◌≡◌, ℕ, List, [], ◌∷◌, map, Some, None, Option}
 use Rattle.jobs.specs.Sets.{bits, Has, without}
+use Rattle.jobs.specs.declared.set.JobSet.{JobSet}
+use Rattle.facilities.specs.declared.bench.line.Batch.{Batch}
 use Rattle.facilities.specs.declared.bench.line.Moment.{Moment}
+use Rattle.facilities.specs.declared.bench.line.Step.{Step}
 use Rattle.facilities.specs.declared.bench.line.Line.{Line}
+use Rattle.facilities.specs.declared.rows.Rows.{Rows}
 use Rattle.facilities.specs.declared.rows.Window.{Window}
 use Rattle.facilities.specs.Benches.{MayStart}
-use Rattle.facilities.specs.Choices.{chosen}
-use Rattle.facilities.specs.Orders.{earliest, end_from, finish}
+use Rattle.facilities.specs.Orders.{earliest, end_from}
 use Rattle.facilities.specs.Rows.{row, row_list}
+
+-- these jobs on a bench with these rows
+abbrev pub batch_of : Rows Window → JobSet → Batch
+batch_of rows set = record { rows = rows; set = set }
 
 -- with the jobs of the set still to run, job x can be the next from hour t on
 pub record Next (rows : List (Option Window)) (set t x : ℕ) : Type 0 where
@@ -19,16 +26,6 @@ abbrev pub Lined : List (Option Window) → (set t : ℕ) → List ℕ → Type 
 Lined rows set t [] = Unit {0}
 Lined rows set t (x ∷ xs) = Next rows set t x × Lined rows (without set x) (end_from (row rows x) t) xs
 
--- what is left of the set once the jobs xs have run
-abbrev pub left : ℕ → List ℕ → ℕ
-left set [] = set
-left set (x ∷ xs) = left (without set x) xs
-
--- the moment at which the jobs xs have run
-pub record Ran (rows : List (Option Window)) (set : ℕ) (xs : List ℕ) (m : Moment) : Type 0 where
-  pub rest : bits m.left ≡ left set xs
-  pub hour : m.hour ≡ finish rows 0 xs
-
 -- one job later, or that it cannot be the next
 pub record Later (rows : List (Option Window)) (m : Moment) (x : ℕ) (n : Moment) : Type 0 where
   pub can : Next rows (bits m.left) m.hour x
@@ -39,15 +36,18 @@ abbrev pub After : List (Option Window) → Moment → ℕ → Option Moment →
 After rows m x (Some n) = Later rows m x n
 After rows m x None = Next rows (bits m.left) m.hour x → ⊥
 
--- the moment at place k, where there is one
-abbrev pub moment : List Moment → ℕ → Moment
-moment ms k = slice_index_or ms k (record { left = record { bits = 0 }; hour = 0 })
+-- the jobs of the steps, in order
+abbrev pub chosen : List Step → List ℕ
+chosen ss = map (λ s. s.job) ss
 
--- what the tables of a line hold: the moment now, and at place k that when k jobs had run
-pub record Tables (rows : List (Option Window)) (set : ℕ) (order : List ℕ) (at : Moment) (past : List Moment) : Type 0 where
-  pub stands : Lined rows set 0 order
-  pub ran : Ran rows set order at
-  pub back : (k : ℕ) → k < length order → Ran rows set (take k order) (moment past k)
+-- the steps lead from moment m to moment n, each by a job that can be the next
+abbrev pub Leads : List (Option Window) → (m : Moment) → List Step → (n : Moment) → Type 0
+Leads rows m [] n = n ≡ m
+Leads rows m (s ∷ ss) n = (k : Moment) × (s.before ≡ m) × Later rows m s.job k × Leads rows k ss n
+
+-- the day's first moment: no job of the set has run
+abbrev pub morning : JobSet → Moment
+morning set = record { left = set; hour = 0 }
 
 abbrev pub Sound : Line → Type 0
-Sound l = Tables (row_list l.batch.rows) (bits l.batch.set) (chosen l.order) l.at l.past
+Sound l = Leads (row_list l.batch.rows) (morning l.batch.set) l.steps.items l.at

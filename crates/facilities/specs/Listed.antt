@@ -1,58 +1,49 @@
 -- The list of a set's jobs: which jobs stand in it, and that each stands there once. Nothing here knows how many jobs there are.
 use Rattle.std.specs.Prelude.{◌≡◌, ℕ, zero, suc, ◌+◌, ◌^◌, ◌<◌, ◌≤◌, Bool, true, false, cond, ◌≢◌, List, [], ◌∷◌, ◌++◌, sum_by, refl}
 use Rattle.std.proofs.Common.{sym, subst, ⊎_elim, arith}
-use Rattle.std.specs.List.{AllByRecursion}
-use Rattle.std.proofs.ByRecursion.{All-push}
+use Rattle.std.specs.List.{All, Contains}
+use Rattle.std.proofs.lemmas.List.Elements.{All-nil, All-head, All-tail, All-push, All-contains, Contains-append_left, Contains-push}
 use Rattle.std.proofs.lemmas.List.Sums.{sum_by_push}
 use Rattle.std.proofs.lemmas.Bool.{true≢false, cases_eq, eq-eqb, eqb-true}
 use Rattle.jobs.specs.Sets.{bit, Has, has, Part, add, members, jobs_of, width}
 use Rattle.jobs.proofs.Bits.{bit_fits}
 use Rattle.facilities.specs.LevelsLemmas.{Apart}
 
+-- each job of the set is listed
+listed_below : (set n j : ℕ) → j < n → Has set j → Contains (members set n) j
+listed_below set zero j l h = absurd (omega arith)
+listed_below set (suc n) j l h = ⊎_elim
+    (λ (e : j ≡ n). subst (Contains (members set (suc n))) (sym e)
+    (subst (λ b. Contains (add b (members set n) n) n) (sym (eq-eqb _ 1 (subst (Has set) e h))) (Contains-push (members set n) n)))
+    (λ (ne : j ≢ n). before (has set n) (listed_below set n j (omega arith) h))
+    (cases_eq j n)
+  where
+    before : (b : Bool) → Contains (members set n) j → Contains (add b (members set n) n) j
+    before true c = Contains-append_left (members set n) (n ∷ []) j c
+    before false c = c
+
 -- what holds of each job of the set holds of each that is listed
 module _ (P : ℕ → Type 0) where
-  all_add : (b : Bool) (js : List ℕ) (n : ℕ) → AllByRecursion P js → (b ≡ true → P n) → AllByRecursion P (add b js n)
+  all_add : (b : Bool) (js : List ℕ) (n : ℕ) → All P js → (b ≡ true → P n) → All P (add b js n)
   all_add true js n a p = All-push P js n a (p refl)
   all_add false js n a p = a
 
-  pub all_members : (set n : ℕ) → ((j : ℕ) → j < n → Has set j → P j) → AllByRecursion P (members set n)
-  all_members set zero f = tt
+  all_members : (set n : ℕ) → ((j : ℕ) → j < n → Has set j → P j) → All P (members set n)
+  all_members set zero f = All-nil P
   all_members set (suc n) f =
       all_add (has set n) (members set n) n (all_members set n (λ j l h. f j (omega arith) h)) (λ e. f n (omega arith) (eqb-true (bit set n) 1 e))
 
-  front_add : (b : Bool) (js : List ℕ) (n : ℕ) → AllByRecursion P (add b js n) → AllByRecursion P js
-  front_add true js n a = front js a
-    where
-      front : (js : List ℕ) → AllByRecursion P (js ++ n ∷ []) → AllByRecursion P js
-      front [] a = tt
-      front (j ∷ js) a = (a.0, front js a.1)
-  front_add false js n a = a
+apart_push : (js : List ℕ) (n : ℕ) → All (λ j. j < n) js → Apart js → Apart (js ++ n ∷ [])
+apart_push [] n l a = (All-nil (λ i. i ≢ n), tt)
+apart_push (j ∷ js) n l a =
+    let first = All-head (λ i. i < n) j js l in
+    (All-push (λ i. i ≢ j) js n a.0 (λ e. omega (arith, first)), apart_push js n (All-tail (λ i. i < n) j js l) a.1)
 
-  last_add : (b : Bool) (js : List ℕ) (n : ℕ) → b ≡ true → AllByRecursion P (add b js n) → P n
-  last_add true js n e a = last js a
-    where
-      last : (js : List ℕ) → AllByRecursion P (js ++ n ∷ []) → P n
-      last [] a = a.0
-      last (j ∷ js) a = last js a.1
-  last_add false js n e a = absurd (true≢false (sym e))
-
-  -- and the other way
-  pub members_all : (set n : ℕ) → AllByRecursion P (members set n) → (j : ℕ) → j < n → Has set j → P j
-  members_all set zero a j l h = let z : ⊥ = omega arith in absurd z
-  members_all set (suc n) a j l h = ⊎_elim
-      (λ (e : j ≡ n). subst P (sym e) (last_add (has set n) (members set n) n (eq-eqb (bit set n) 1 (subst (Has set) e h)) a))
-      (λ (ne : j ≢ n). members_all set n (front_add (has set n) (members set n) n a) j (omega arith) h)
-      (cases_eq j n)
-
-apart_push : (js : List ℕ) (n : ℕ) → AllByRecursion (λ j. j < n) js → Apart js → Apart (js ++ n ∷ [])
-apart_push [] n l a = (tt, tt)
-apart_push (j ∷ js) n l a = (All-push (λ i. i ≢ j) js n a.0 (λ e. omega (arith, l.0)), apart_push js n l.1 a.1)
-
-apart_add : (b : Bool) (js : List ℕ) (n : ℕ) → AllByRecursion (λ j. j < n) js → Apart js → Apart (add b js n)
+apart_add : (b : Bool) (js : List ℕ) (n : ℕ) → All (λ j. j < n) js → Apart js → Apart (add b js n)
 apart_add true js n l a = apart_push js n l a
 apart_add false js n l a = a
 
-pub members_apart : (set n : ℕ) → Apart (members set n)
+members_apart : (set n : ℕ) → Apart (members set n)
 members_apart set zero = tt
 members_apart set (suc n) = apart_add (has set n) (members set n) n (all_members (λ j. j < n) set n (λ j l h. l)) (members_apart set n)
 
@@ -78,21 +69,20 @@ module _ (amount : ℕ → ℕ) where
   )
 
 -- the same of all jobs of a set
-pub all_jobs : (P : ℕ → Type 0) (set : ℕ) → ((j : ℕ) → Has set j → P j) → AllByRecursion P (jobs_of set)
+pub all_jobs : (P : ℕ → Type 0) (set : ℕ) → ((j : ℕ) → Has set j → P j) → All P (jobs_of set)
 unfolding jobs_of
 all_jobs P set f = all_members P set width (λ j l h. f j h)
 
-pub jobs_all : (P : ℕ → Type 0) (set : ℕ) → set < 2 ^ width → AllByRecursion P (jobs_of set) → (j : ℕ) → Has set j → P j
+pub jobs_listed : (set j : ℕ) → set < 2 ^ width → Has set j → Contains (jobs_of set) j
 unfolding jobs_of
-jobs_all P set l a j h = members_all P set width a j (bit_fits width set j l h) h
+jobs_listed set j small h = listed_below set width j (bit_fits width set j small h) h
+
+pub jobs_all : (P : ℕ → Type 0) (set : ℕ) → set < 2 ^ width → All P (jobs_of set) → (j : ℕ) → Has set j → P j
+jobs_all P set small a j h = All-contains P (jobs_of set) j a (jobs_listed set j small h)
 
 pub jobs_apart : (set : ℕ) → Apart (jobs_of set)
 unfolding jobs_of
 jobs_apart set = members_apart set width
-
-pub jobs_below : (set : ℕ) → AllByRecursion (λ j. j < width) (jobs_of set)
-unfolding jobs_of
-jobs_below set = all_members (λ j. j < width) set width (λ j l h. l)
 
 pub sum_jobs_part : (amount : ℕ → ℕ) (part whole : ℕ) → Part part whole → sum_by amount (jobs_of part) ≤ sum_by amount (jobs_of whole)
 unfolding jobs_of

@@ -18,11 +18,6 @@ abbrev pub Ends : Window → ℕ → Option ℕ → Type 0
 Ends w t (Some e) = Fits w (earliest (Some w) t) × (e ≡ end_from (Some w) t)
 Ends w t None = Fits w (earliest (Some w) t) → ⊥
 
--- the hour at which the last of the jobs ends, the first of which may start at hour t
-abbrev pub finish : List (Option Window) → ℕ → List ℕ → ℕ
-finish rows t [] = t
-finish rows t (x ∷ xs) = finish rows (end_from (row rows x) t) xs
-
 -- the hour at which the job starts
 abbrev pub start_from : List (Option Window) → ℕ → List ℕ → ℕ → ℕ
 start_from rows t [] job = t

@@ -1,5 +1,5 @@
 -- Rows, and when a job that has one may run.
-use Rattle.std.specs.Prelude.{◌≡◌, ℕ, ◌+◌, ◌≤◌, Bool, true, false, ◌&&◌, List, Some, None, Ok, Err, Option, Result, nat_le, nat_lt, slice_index_or}
+use Rattle.std.specs.Prelude.{◌≡◌, ℕ, ◌+◌, ◌≤◌, Bool, ◌&&◌, List, Some, None, Ok, Err, Option, Result, nat_le, nat_lt, slice_index_or}
 use Rattle.jobs.specs.declared.refusal.Refusal.{Refusal}
 use Rattle.jobs.specs.declared.refusal.Refusal.TheVariants.{SupplyOutOfRange, NoSuchJob, BadRow}
 use Rattle.jobs.specs.Refusals.{unless}
@@ -32,11 +32,6 @@ pub record WindowOf (release takes due : ℕ) (w : Window) : Type 0 where
   pub release_is : w.release ≡ release
   pub takes_is : w.takes ≡ takes
   pub due_is : w.due ≡ due
-
--- there is such a value exactly where the test holds
-abbrev pub Made : {T : Type 0} → Bool → (T → Type 0) → Option T → Type 0
-Made test P (Some v) = (test ≡ true) × P v
-Made test P None = test ≡ false
 
 -- why a bench refuses a row
 abbrev pub bench_refusal : (job release takes due : ℕ) → Option Refusal

@@ -1,8 +1,7 @@
 -- What a search answers of a trial's problem.
 use Rattle.std.specs.Prelude.{◌≡◌, ℕ, List, [], Some, None, Option}
-use Rattle.facilities.specs.declared.choices.Choices.{Choices}
+use Rattle.arrayvec.specs.ArrayVec.{ArrayVec}
 use Rattle.facilities.specs.declared.trial.Trial.{Ghosts}
-use Rattle.facilities.specs.Choices.{chosen}
 use Rattle.facilities.specs.Trials.{Solves, First}
 
 -- the first list that solves the problem
@@ -14,8 +13,8 @@ abbrev pub Unsolved : {S P : Type 0} → Ghosts S P → P → Type 0
 Unsolved t p = (xs : List ℕ) → Solves (t.allowed p) (t.levels p) (t.choices p) xs → ⊥
 
 -- what is answered, and which choices the trial then holds
-abbrev pub Answers : {S P : Type 0} → Ghosts S P → P → Option Choices → List ℕ → Type 0
-Answers t p (Some c) held = FirstOf t p (chosen c) × (held ≡ chosen c)
+abbrev pub Answers : {S P : Type 0} → Ghosts S P → P → Option (ArrayVec ℕ) → List ℕ → Type 0
+Answers t p (Some xs) held = FirstOf t p xs.items × (held ≡ xs.items)
 Answers t p None held = Unsolved t p × (held ≡ [])
 
 -- a problem has one first list at most

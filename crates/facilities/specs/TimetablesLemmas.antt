@@ -1,7 +1,8 @@
 -- What a timetable holds as it grows by one hour and gives one back.
-use Rattle.std.specs.Prelude.{◌≡◌, ℕ, ◌+◌, ◌-◌, ◌^◌, ◌<◌, ◌≤◌, List, [], ◌∷◌, ◌++◌, length, replicate, Some, None, Option, slice_index}
+use Rattle.std.specs.Prelude.{◌≡◌, ℕ, ◌+◌, ◌-◌, ◌^◌, ◌<◌, ◌≤◌, List, [], ◌∷◌, ◌++◌, length, replicate, Some, None, Option, slice_index, slice_get, option_and_then}
 use Rattle.std.proofs.Common.{sym, ap, subst, ◌∙◌, ⊎_elim, arith}
 use Rattle.std.proofs.lemmas.Bool.{cases_lt}
+use Rattle.std.proofs.lemmas.Option.{slice_get-get_or}
 use Rattle.std.proofs.lemmas.List.{length_push, get_or-replicate}
 use Rattle.facilities.specs.declared.stand.row.StandRow.{StandRow}
 use Rattle.facilities.specs.Draws.{draw_at, draws, drawn, Overdrawn}
@@ -19,10 +20,19 @@ fed_range supply rows j r fed e = ⊎_elim
     (λ (l : supply ≤ 255). l)
     (cases_lt 255 supply)
 
--- the row of the job at level k, where the hours xs fill the levels below
-pub level_row : (rows : List (Option StandRow)) (js xs : List ℕ) (k : ℕ) (o : Option StandRow) → k ≡ length xs →
-    o ≡ row rows (slice_index js k) → o ≡ row rows (slice_index js (length xs))
-level_row rows js xs k o e is = is ∙ ap (λ (n : ℕ). row rows (slice_index js n)) e
+-- once the hours xs are given it is the turn of a job, and o is its row
+pub record Turn (rows : List (Option StandRow)) (js xs : List ℕ) (o : Option StandRow) : Type 0 where
+  pub level : length xs < length js
+  pub is : o ≡ row rows (slice_index js (length xs))
+
+-- whose turn it is, as a timetable reads it
+pub turn_of : (rows : List (Option StandRow)) (js listed xs : List ℕ) (k : ℕ) (o : Option StandRow) → listed ≡ js → length xs < length js → k ≡ length xs →
+    o ≡ option_and_then (row rows) (slice_get listed k) → Turn rows js xs o
+turn_of rows js listed xs k o all l e is = record {
+  level = l;
+  is = is ∙ ap (λ (ks : List ℕ). option_and_then (row rows) (slice_get ks k)) all ∙ ap (λ (n : ℕ). option_and_then (row rows) (slice_get js n)) e
+      ∙ ap (option_and_then (row rows)) (slice_get-get_or js (length xs) 0 l);
+}
 
 -- a job that fits ends within the day
 pub ends_in_day : (r : StandRow) (x : ℕ) → Fits r.window x → x + r.window.takes ≤ hours
@@ -42,41 +52,41 @@ module _ (rows : List (Option StandRow)) (supply : ℕ) (js : List ℕ) where
   pub allowed_level : (xs : List ℕ) (x : ℕ) → Allowed rows supply js (xs ++ x ∷ []) → length xs < length js
   allowed_level xs x a = omega (arith, allowed_short (xs ++ x ∷ []) a, length_push xs x)
 
+  -- the last hour of those given
+  pub last_given : (listed table ys xs : List ℕ) (x : ℕ) → ys ≡ xs ++ x ∷ [] → Sound rows supply js listed ys table → Sound rows supply js listed (xs ++ x ∷ []) table
+  last_given listed table ys xs x e s = subst (λ zs. Sound rows supply js listed zs table) e s
+
   -- the last of the jobs that have an hour
   pub last_may : (xs : List ℕ) (x : ℕ) → Allowed rows supply js (xs ++ x ∷ []) → MayStart (row rows (slice_index js (length xs))) x
   last_may xs x a = given_last (λ j y. MayStart (row rows j) y) js xs x a.timed
 
-  pub no_row : (xs : List ℕ) (x : ℕ) → None ≡ row rows (slice_index js (length xs)) → Allowed rows supply js (xs ++ x ∷ []) → ⊥
-  no_row xs x e a = subst (λ o. MayStart o x → ⊥) e (λ f. f) (last_may xs x a)
+  pub no_row : (xs : List ℕ) (x : ℕ) → Turn rows js xs None → Allowed rows supply js (xs ++ x ∷ []) → ⊥
+  no_row xs x turn a = subst (λ o. MayStart o x → ⊥) turn.is (λ f. f) (last_may xs x a)
 
-  module _ (xs : List ℕ) (x : ℕ) (room : length xs < length js) (r : StandRow) (e : Some r ≡ row rows (slice_index js (length xs))) where
+  module _ (xs : List ℕ) (x : ℕ) (r : StandRow) (turn : Turn rows js xs (Some r)) where
     pub last_fits : Allowed rows supply js (xs ++ x ∷ []) → Fits r.window x
-    last_fits a = subst (λ o. MayStart o x) (sym e) (last_may xs x a)
+    last_fits a = subst (λ o. MayStart o x) (sym turn.is) (last_may xs x a)
 
     pub used_more : (h : ℕ) → used rows js (xs ++ x ∷ []) h ≡ used rows js xs h + drawn (draw_at r) r.window.takes x h
     used_more h =
-        total_push (λ j y. draws (row rows j) y h) js xs x room
-        ∙ ap (λ o. used rows js xs h + draws o x h) (sym e)
+        total_push (λ j y. draws (row rows j) y h) js xs x turn.level
+        ∙ ap (λ o. used rows js xs h + draws o x h) (sym turn.is)
 
     -- one hour more
-    module _ (listed table : List ℕ) (s : Sound rows supply js listed xs table) where
-      pub fits_not : (Fits r.window x → ⊥) → Allowed rows supply js (xs ++ x ∷ []) → ⊥
-      fits_not n a = n (last_fits a)
-
-      pub feeds_not : Fits r.window x →
-          (((h : ℕ) → x ≤ h → h < x + r.window.takes → at table h + draw_at r (h - x) ≤ supply) → ⊥) →
+    module _ (listed table : List ℕ) (s : Sound rows supply js listed xs table) (f : Fits r.window x) where
+      pub feeds_not : (((h : ℕ) → x ≤ h → h < x + r.window.takes → at table h + draw_at r (h - x) ≤ supply) → ⊥) →
           Allowed rows supply js (xs ++ x ∷ []) → ⊥
-      feeds_not f n a = n (λ h l m.
+      feeds_not n a = n (λ h l m.
           let day : h < hours = omega (arith, ends_in_day r x f) in
           omega (arith, a.supplied h day, used_more h, s.filled h day, drawn_inside (draw_at r) r.window.takes x h l m))
 
-      module _ (f : Fits r.window x) (free : (h : ℕ) → x ≤ h → h < x + r.window.takes → at table h + draw_at r (h - x) ≤ supply) where
+      module _ (free : (h : ℕ) → x ≤ h → h < x + r.window.takes → at table h + draw_at r (h - x) ≤ supply) where
         pub room_left : (h : ℕ) → x ≤ h → h < x + r.window.takes → at table h + draw_at r (h - x) < 2 ^ 16
-        room_left h l m = omega (arith, free h l m, fed_range supply rows (slice_index js (length xs)) r s.fed e)
+        room_left h l m = omega (arith, free h l m, fed_range supply rows (slice_index js (length xs)) r s.fed turn.is)
 
         pub stands_on : Allowed rows supply js (xs ++ x ∷ [])
         stands_on = record {
-          timed = given_push (λ j y. MayStart (row rows j) y) js xs x room s.stands.timed (subst (λ o. MayStart o x) e f);
+          timed = given_push (λ j y. MayStart (row rows j) y) js xs x turn.level s.stands.timed (subst (λ o. MayStart o x) turn.is f);
           supplied = λ h day. hour_cases x (x + r.window.takes) h (used rows js (xs ++ x ∷ []) h ≤ supply)
               (λ l m. omega (arith, used_more h, s.filled h day, drawn_inside (draw_at r) r.window.takes x h l m, free h l m))
               (λ o. omega (arith, used_more h, drawn_outside (draw_at r) r.window.takes x h o, s.stands.supplied h day));
@@ -94,9 +104,6 @@ module _ (rows : List (Option StandRow)) (supply : ℕ) (js : List ℕ) where
 
     -- the last hour given back
     module _ (listed table : List ℕ) (s : Sound rows supply js listed (xs ++ x ∷ []) table) where
-      pub fits_still : Fits r.window x
-      fits_still = last_fits s.stands
-
       pub there : (h : ℕ) → h < hours → drawn (draw_at r) r.window.takes x h ≤ at table h
       there h day = omega (arith, used_more h, s.filled h day)
 

@@ -27,16 +27,14 @@ impl Bench {
         Bench { rows: Rows::new() }
     }
 
-    // Enters the row of a job, in place of the old one.
+    // Enters the row of a job, in place of the old one. Its numbers come one by one, as they are typed.
     pub fn row(&mut self, job: u32, release: u32, takes: u32, due: u32) -> Result<(), Refusal>
         ensures { Entry (bench_refusal job release takes due) result self.old self.new (RowEntered job release takes due self.old self.new) }
     {
         if job >= JOBS as u32 {
             return Err(Refusal::NoSuchJob);
         }
-        let Some(window) = Window::of(release, takes, due) else {
-            return Err(Refusal::BadRow);
-        };
+        let window = Window::of(release, takes, due)?;
         self.rows.put(job, window);
         Ok(())
     }

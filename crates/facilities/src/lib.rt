@@ -2,7 +2,6 @@
 #![tactic(auto)]
 
 pub mod bench;
-mod choices;
 pub mod facility;
 pub mod rows;
 mod search;

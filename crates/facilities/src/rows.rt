@@ -24,6 +24,7 @@ pub struct Rows<R> {
     held: [Option<R>; JOBS],
 }
 
+// A derived Clone gets no proof: it would need a bound on the layout of any row.
 impl<R: Copy> Clone for Rows<R> {
     ghost is_clone = { λ a b. b ≡ a };
 

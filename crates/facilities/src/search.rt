@@ -3,11 +3,12 @@ ghost use Rattle.std.specs.Prelude.{◌≡◌, ◌≤◌, []};
 ghost use Rattle.facilities.specs.Trials.{most_levels, most_choices};
 ghost use Rattle.facilities.specs.Searches.{Answers, OneFirst};
 
-use crate::choices::Choices;
 use crate::trial::Trial;
+use arrayvec::ArrayVec;
+use jobs::set::JOBS;
 
 // The first allowed list of full length, if there is one. The trial is left with the choices of that list, or with none.
-pub(crate) fn first<T: Trial>(trial: &mut T) -> Option<Choices>
+pub(crate) fn first<T: Trial>(trial: &mut T) -> Option<ArrayVec<u16, JOBS>>
     requires sound { T.Trial.sound trial.old }
     requires fresh { T.Trial.taken trial.old ≡ [] }
     ensures same { T.Trial.problem trial.new ≡ T.Trial.problem trial.old }
@@ -19,7 +20,7 @@ pub(crate) fn first<T: Trial>(trial: &mut T) -> Option<Choices>
 {
     let levels = trial.depth();
     let choices = trial.width();
-    let mut found = Choices::none();
+    let mut found = ArrayVec::new();
     let mut next = 0u16;
     while found.len() < levels {
         if next < choices {
@@ -30,9 +31,7 @@ pub(crate) fn first<T: Trial>(trial: &mut T) -> Option<Choices>
                 next += 1;
             }
         } else {
-            let Some(last) = found.pop() else {
-                return None;
-            };
+            let last = found.pop()?;
             trial.undo();
             next = last + 1;
         }

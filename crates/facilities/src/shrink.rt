@@ -18,12 +18,9 @@ fn shrunk<F: Facility>(facility: &F, set: JobSet) -> JobSet
     requires { F.Facility.family facility.now (bits set) → ⊥ }
     ensures { Shrunk (F.Facility.family facility.now) (bits set) (bits result) }
 {
-    let jobs = set.jobs();
     let mut left = set;
-    let mut place = 0;
-    while let Some(job) = jobs.get(place) {
+    for job in set.jobs() {
         left = left_out(facility, left, job);
-        place += 1;
     }
     left
 }

@@ -1,6 +1,6 @@
 -- A set of jobs as a number: job i is in it where bit i, worth 2 ^ i, is 1.
 -- Everything here is over numbers of any width; `width` alone says how many jobs there are.
-use Rattle.std.specs.Prelude.{◌≡◌, ℕ, zero, suc, ◌+◌, ◌-◌, ◌*◌, ◌/◌, ◌%◌, ◌^◌, ◌<◌, ◌≤◌, Bool, true, false, List, [], ◌∷◌, ◌++◌, None, Option, ◌==◌, bit_or, nat_lt}
+use Rattle.std.specs.Prelude.{◌≡◌, ℕ, zero, suc, ◌+◌, ◌-◌, ◌*◌, ◌/◌, ◌%◌, ◌^◌, ◌<◌, Bool, true, false, List, [], ◌∷◌, ◌++◌, None, Option, ◌==◌, bit_or, nat_lt}
 use Rattle.jobs.specs.declared.refusal.Refusal.{Refusal}
 use Rattle.jobs.specs.declared.refusal.Refusal.TheVariants.{NoSuchJob}
 use Rattle.jobs.specs.declared.set.JobSet.{JobSet}
@@ -57,10 +57,9 @@ members set (suc n) = add (has set n) (members set n) n
 unfoldable pub jobs_of : ℕ → List ℕ
 jobs_of set = members set width
 
--- i is the lowest job of the set, or n where the set has none below n
-pub record Lowest (n set i : ℕ) : Type 0 where
-  pub bound : i ≤ n
-  pub held : i < n → Has set i
+-- i is the lowest job of the set
+pub record Lowest (set i : ℕ) : Type 0 where
+  pub held : Has set i
   pub least : (j : ℕ) → j < i → Has set j → ⊥
 
 -- a number that is no job's is refused

@@ -1,6 +1,4 @@
-pub mod Accepting
 pub mod Keeping
 pub mod Putting
 pub mod Shrinking
-pub mod Shrunken
 pub mod Telling

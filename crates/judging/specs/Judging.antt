@@ -1,12 +1,10 @@
 -- A judgement: which questions it puts to the workshop, in which order, and what it adds to the table.
-use Rattle.std.specs.Prelude.{◌≡◌, ℕ, zero, suc, ◌+◌, ◌<◌, Bool, true, false, List, [], ◌∷◌, ◌++◌, length, Ok}
+use Rattle.std.specs.Prelude.{◌≡◌, ℕ, zero, suc, ◌+◌, ◌<◌, Bool, true, false, List, [], ◌∷◌, ◌++◌, length, Ok, Err, Result}
 use Rattle.jobs.specs.Sets.{without, jobs_of}
 use Rattle.jobs.specs.declared.set.JobSet.{JobSet}
 use Rattle.workshops.specs.Workshops.{Meaning}
 use Rattle.workshops.specs.Replies.{Allowed, True, given}
 use Rattle.workshops.specs.declared.reply.Fault.{Fault}
-use Rattle.workshops.specs.declared.reply.Reply.{Reply}
-use Rattle.workshops.specs.declared.reply.Reply.TheVariants.{Yes, No, Stop}
 use Rattle.master.specs.Cuts.{room, cut_of, Adds}
 use Rattle.master.specs.Rows.{Group}
 use Rattle.master.specs.declared.cut.Addition.{Addition}
@@ -29,7 +27,7 @@ tally Put = 1
 
 module _ {W : Type 0} (m : Meaning W) where
   -- the workshop w was asked whether the place can schedule the set; it replied, and then stands at v
-  pub record Asked (w : W) (place set : ℕ) (reply : Reply) (v : W) : Type 0 where
+  pub record Asked (w : W) (place set : ℕ) (reply : Result Bool Fault) (v : W) : Type 0 where
     pub answers : Allowed (m.stance w place set) place (set_of set) (Ok reply)
     pub asks : m.asks w place set (given reply) v
     pub truth : m.invariant w → True (given reply) (m.family w place set)
@@ -38,18 +36,18 @@ module _ {W : Type 0} (m : Meaning W) where
   -- A job stays out where the reply was still no. Then t is left of the set, and the workshop stands at v.
   pub data Tries (place set : ℕ) (w : W) : List ℕ → ℕ → W → Type 0 where
     start : Tries place set w [] set w
-    needed : (js : List ℕ) (j t : ℕ) (v v' : W) → Tries place set w js t v → Asked v place (without t j) Yes v' → Tries place set w (js ++ j ∷ []) t v'
-    spared : (js : List ℕ) (j t : ℕ) (v v' : W) → Tries place set w js t v → Asked v place (without t j) No v' → Tries place set w (js ++ j ∷ []) (without t j) v'
+    needed : (js : List ℕ) (j t : ℕ) (v v' : W) → Tries place set w js t v → Asked v place (without t j) (Ok true) v' → Tries place set w (js ++ j ∷ []) t v'
+    spared : (js : List ℕ) (j t : ℕ) (v v' : W) → Tries place set w js t v → Asked v place (without t j) (Ok false) v' → Tries place set w (js ++ j ∷ []) (without t j) v'
 
   -- the set is put to the place: what comes of it, the workshop and the table then
   pub data Puts (place set : ℕ) (w : W) (cuts : List Cut) : Turn → W → List Cut → Type 0 where
-    passed : (v : W) → Asked w place set Yes v → Puts place set w cuts Passed v cuts
-    stopped : (f : Fault) (v : W) → Asked w place set (Stop f) v → Puts place set w cuts (Stopped f) v cuts
-    full : (v : W) → Asked w place set No v → length cuts ≡ room → Puts place set w cuts Filled v cuts
+    passed : (v : W) → Asked w place set (Ok true) v → Puts place set w cuts Passed v cuts
+    stopped : (f : Fault) (v : W) → Asked w place set (Err f) v → Puts place set w cuts (Stopped f) v cuts
+    full : (v : W) → Asked w place set (Ok false) v → length cuts ≡ room → Puts place set w cuts Filled v cuts
     -- a stop while shrinking: the half-shrunk set is not added
-    halted : (js : List ℕ) (j : ℕ) (rest : List ℕ) (t : ℕ) (f : Fault) (v u u' : W) → Asked w place set No v → length cuts < room
-        → jobs_of set ≡ js ++ j ∷ rest → Tries place set v js t u → Asked u place (without t j) (Stop f) u' → Puts place set w cuts (Stopped f) u' cuts
-    added : (t : ℕ) (a : Addition) (v u : W) (after : List Cut) → Asked w place set No v → length cuts < room
+    halted : (js : List ℕ) (j : ℕ) (rest : List ℕ) (t : ℕ) (f : Fault) (v u u' : W) → Asked w place set (Ok false) v → length cuts < room
+        → jobs_of set ≡ js ++ j ∷ rest → Tries place set v js t u → Asked u place (without t j) (Err f) u' → Puts place set w cuts (Stopped f) u' cuts
+    added : (t : ℕ) (a : Addition) (v u : W) (after : List Cut) → Asked w place set (Ok false) v → length cuts < room
         → Tries place set v (jobs_of set) t u → Adds cuts (cut_of place (set_of t)) a after → Puts place set w cuts (Added a) u after
 
   -- The places below the given one were judged, from 0 upward, each with the set of the row's jobs that it is given.

@@ -1,5 +1,5 @@
 pub mod Judging
+pub mod Places
 pub mod Refused
-pub mod Shrunk
 pub mod Trials
 pub mod Truths

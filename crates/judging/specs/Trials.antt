@@ -1,39 +1,26 @@
 -- Inner: what the private functions promise. No public contract cites this file.
-use Rattle.std.specs.Prelude.{◌≡◌, ℕ, ◌<◌, Bool, true, false, List, ◌∷◌, ◌++◌, length, Ok, Err, Result}
+use Rattle.std.specs.Prelude.{◌≡◌, ℕ, ◌<◌, true, false, List, ◌∷◌, ◌++◌, length, Ok, Err, Result}
 use Rattle.jobs.specs.Sets.{bits, without, jobs_of}
 use Rattle.jobs.specs.declared.set.JobSet.{JobSet}
 use Rattle.workshops.specs.Workshops.{Meaning}
 use Rattle.workshops.specs.declared.reply.Fault.{Fault}
-use Rattle.workshops.specs.declared.reply.Reply.{Reply}
-use Rattle.workshops.specs.declared.reply.Reply.TheVariants.{Yes, No, Stop}
 use Rattle.master.specs.Cuts.{room, cut_of, Adds}
 use Rattle.master.specs.Rows.{Group}
 use Rattle.master.specs.declared.cut.Cut.{Cut}
 use Rattle.judging.specs.Judging.{Asked, Tries, Puts}
-use Rattle.judging.specs.declared.outcome.Outcome.{Outcome}
-use Rattle.judging.specs.declared.outcome.Outcome.TheVariants.{Agreed, Cut as Cutting}
 use Rattle.judging.specs.declared.outcome.Turn.{Turn}
 use Rattle.judging.specs.declared.outcome.Turn.TheVariants.{Passed, Added, Stopped, Full as Filled}
 
--- what is left of a set after the reply to the question without one job: less on a no
-abbrev pub left_by : Reply → JobSet → JobSet → Result JobSet Fault
-left_by Yes whole less = Ok whole
-left_by No whole less = Ok less
-left_by (Stop f) whole less = Err f
-
--- the outcome with all places judged: whether all said yes, and how many cuts were added
-abbrev pub outcome_of : Bool → ℕ → Outcome
-outcome_of true added = Agreed
-outcome_of false added = Cutting added
-
 module _ {W : Type 0} (m : Meaning W) where
-  -- job j was left out of t on trial: the reply, and what is left by it
-  pub record Tried (place : ℕ) (t : JobSet) (j : ℕ) (w : W) (r : Result JobSet Fault) (v : W) : Type 0 where
-    pub reply : Reply
-    pub less : JobSet
-    pub lacks : bits less ≡ without (bits t) j
-    pub asked : Asked m w place (bits less) reply v
-    pub leaves : r ≡ left_by reply t less
+  -- job j was left out of t on trial: it stays on a yes, and stays out on a no
+  pub data LeftOut (place t j : ℕ) (w : W) (left : ℕ) (v : W) : Type 0 where
+    stays : Asked m w place (without t j) (Ok true) v → left ≡ t → LeftOut place t j w left v
+    goes : Asked m w place (without t j) (Ok false) v → left ≡ without t j → LeftOut place t j w left v
+
+  -- the trial: what is left, or the stop
+  abbrev pub Tried : ℕ → ℕ → ℕ → W → Result JobSet Fault → W → Type 0
+  Tried place t j w (Ok left) v = LeftOut place t j w (bits left) v
+  Tried place t j w (Err f) v = Asked m w place (without t j) (Err f) v
 
   -- the shrinking of the set was stopped, with the jobs js tried
   pub record Halts (place set : ℕ) (w : W) (f : Fault) (v : W) : Type 0 where
@@ -44,7 +31,7 @@ module _ {W : Type 0} (m : Meaning W) where
     pub u : W
     pub order : jobs_of set ≡ js ++ j ∷ rest
     pub tries : Tries m place set w js t u
-    pub asked : Asked m u place (without t j) (Stop f) v
+    pub asked : Asked m u place (without t j) (Err f) v
 
   -- the shrinking of the set: what is left, or the stop
   abbrev pub Shrinks : ℕ → ℕ → W → Result JobSet Fault → W → Type 0

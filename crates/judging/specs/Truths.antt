@@ -1,6 +1,7 @@
 -- What the answers tell of a workshop that keeps its word, whatever questions led to them.
 use Rattle.std.specs.Prelude.{◌≡◌, ℕ, ◌<◌, List, length}
 use Rattle.jobs.specs.Sets.{bits, Part}
+use Rattle.facilities.specs.Shrinking.{Shrunk, Minimal, AtMostOne}
 use Rattle.workshops.specs.Stances.{Stopped as StoppedWith}
 use Rattle.workshops.specs.Workshops.{Meaning, Kept}
 use Rattle.workshops.specs.declared.reply.Fault.{Fault}
@@ -12,7 +13,13 @@ use Rattle.judging.specs.declared.outcome.Turn.TheVariants.{Passed, Added, Stopp
 use Rattle.judging.specs.declared.outcome.Outcome.{Outcome}
 use Rattle.judging.specs.declared.outcome.Outcome.TheVariants.{Agreed, Cut as Cutting, Stopped as Stopping, Full as Filling}
 use Rattle.judging.specs.Judging.{set_of}
-use Rattle.judging.specs.Shrunk.{ShrinksTo}
+
+-- t is what shrinking makes of a set that a place cannot schedule: nothing else is, and it is a part of the set that
+-- the place cannot schedule either, but can with any single job left out
+pub record ShrinksTo (family : ℕ → Type 0) (set t : ℕ) : Type 0 where
+  pub shrunk : Shrunk family set t
+  pub only : AtMostOne (Shrunk family set)
+  pub minimal : Minimal family set t
 
 module _ {W : Type 0} (m : Meaning W) where
   -- v has the count and the families of w, and keeps its word as w does

@@ -6,11 +6,12 @@ ghost use Rattle.master.specs.Rows.{row_places};
 ghost use Rattle.master.specs.Tables.{held};
 ghost use Rattle.judging.specs.Judging.{tally, Ends};
 ghost use Rattle.judging.specs.Refused.{judge_refusal};
-ghost use Rattle.judging.specs.Trials.{outcome_of, Turned};
+ghost use Rattle.judging.specs.Trials.{Turned};
 ghost use Rattle.judging.specs.Truths.{TellsAll, Follows};
 
 use crate::outcome::{Outcome, Turn};
-use crate::put::{PLACES, turn};
+use crate::place::turn;
+use crate::put::PLACES;
 use jobs::refusal::Refusal;
 use master::cut::Addition;
 use master::row::Row;
@@ -22,11 +23,7 @@ fn counted(addition: Addition) -> u16
     ensures value { result ≡ tally addition }
     ensures bound { result ≤ 1 }
 {
-    match addition {
-        Addition::Covered => 0,
-        Addition::Full => 0,
-        Addition::Put => 1,
-    }
+    u16::from(addition == Addition::Put)
 }
 
 // Puts its jobs to a place, also where it has none.
@@ -37,17 +34,6 @@ fn judge_place<W: Workshop>(workshop: &mut W, cuts: &mut CutTable, row: &Row, pl
 {
     let set = row.group(place);
     turn(workshop, cuts, place, set)
-}
-
-// The outcome after the last place.
-fn last(all: bool, added: u16) -> Outcome
-    ensures { result ≡ outcome_of all added }
-{
-    if all {
-        Outcome::Agreed
-    } else {
-        Outcome::Cut { added }
-    }
 }
 
 // Judges the places below the given number, from 0 upward.
@@ -61,24 +47,21 @@ fn judge_places<W: Workshop>(
     requires few { places ≤ most_places }
     ensures { Ends W.Workshop.meaning workshop.old (held cuts.old) (row_places row.now) places result workshop.new (held cuts.new) }
 {
-    let mut added = 0;
-    let mut all = true;
+    // How many cuts were added, once some place has said no.
+    let mut cut: Option<u16> = None;
     for place in 0..places {
+        let added = cut.unwrap_or(0);
         match judge_place(workshop, cuts, row, place) {
             Turn::Passed => {}
-            Turn::Added(addition) => {
-                added += counted(addition);
-                all = false;
-            }
-            Turn::Stopped(fault) => {
-                return Outcome::Stopped { fault, added };
-            }
-            Turn::Full => {
-                return Outcome::Full { place, added };
-            }
+            Turn::Added(addition) => cut = Some(added + counted(addition)),
+            Turn::Stopped(fault) => return Outcome::Stopped { fault, added },
+            Turn::Full => return Outcome::Full { place, added },
         }
     }
-    last(all, added)
+    match cut {
+        None => Outcome::Agreed,
+        Some(added) => Outcome::Cut { added },
+    }
 }
 
 // Judges each place in turn, from 0 upward. A place without jobs is judged too.

@@ -3,5 +3,5 @@
 
 pub mod judge;
 pub mod outcome;
+mod place;
 pub mod put;
-mod shrink;

@@ -1,8 +1,14 @@
 -- What is left of the cuts when one is added.
-use Rattle.std.proofs.Common.{◌≡◌, ℕ, zero, suc, ◌+◌, ◌<◌, ◌≤◌, Bool, ◌⊎◌, List, [], ◌∷◌, ◌++◌, length, get_or, take, set, Ok, sym, refl, ap, ◌∙◌, subst, inl, inr, ⊎_elim, arith, length-set, lt-ltb}
-use Rattle.std.proofs.lemmas.List.{take_more, take_more_set, length-take-le}
-use Rattle.std.specs.List.{AllByRecursion}
-use Rattle.master.specs.Cuts.{room, cut_of, Breaks, Obeys, Within, Leaves, Covers, Adds, RulesOut, Touches, Clash, Misplaced}
+use Rattle.std.proofs.Common.{◌≡◌, ℕ, zero, suc, ◌<◌, ◌≤◌, Bool, ◌⊎◌, List, [], ◌∷◌, ◌++◌, length, Ok, cond, MatchBool, true, false, sym, refl, ap, ◌∙◌, subst, inl, inr, ⊎_elim, arith, lt-ltb}
+use Rattle.std.proofs.Math.Bridge.{le_prop}
+use mathlib.Core.HLevel.{is_prop→PathP, ⊥_prop}
+use Rattle.std.proofs.lemmas.List.Elements.{All-from_all_within, recursion_from_All}
+use Rattle.std.specs.List.Retain.{RetainsInTurn}
+use Rattle.std.specs.List.{AllByRecursion, HoldsAt, AllWithin}
+use Rattle.jobs.specs.Words.{Exactly}
+use Rattle.master.specs.Tables.{held}
+use Rattle.master.specs.declared.table.CutTable.{CutTable}
+use Rattle.master.specs.Cuts.{room, Breaks, Obeys, Within, Leaves, Covers, Adds, RulesOut, Touches, Clash, Misplaced}
 use Rattle.master.specs.Rows.{Gives}
 use Rattle.master.specs.declared.cut.Addition.{Addition}
 use Rattle.std.proofs.ByRecursion.{All-push}
@@ -13,34 +19,27 @@ use Rattle.master.specs.Cuts.Touches.{inside, around, beyond}
 use Rattle.master.specs.Cuts.Clash.{first, later}
 use Rattle.master.specs.Cuts.Misplaced.{astray, onward}
 use Rattle.master.specs.declared.cut.Cut.{Cut}
-use Rattle.master.specs.declared.cut.Addition.TheVariants.{Full, Put}
 use Rattle.master.specs.Refused.{most_places, refused_unless, cut_refusal}
 use Rattle.jobs.specs.Refusals.{Answered}
 use Rattle.jobs.specs.declared.refusal.Refusal.TheVariants.{NoSuchPlace}
-
--- what the checker reads past the end of a list of cuts
-abbrev pub no_cut : Cut
-no_cut = cut_of 0 (record { bits = 0 })
 
 pub not_covered : (c : Cut) (cs : List Cut) → AllByRecursion (λ d. Within d c → ⊥) cs → Covers c cs → ⊥
 not_covered c cs h (here d ds k) = h.0 k
 not_covered c cs h (there d ds k) = not_covered c ds h.1 k
 
-pub all_stay : (c : Cut) (cs left : List Cut) → AllByRecursion (λ d. Within c d → ⊥) cs → Leaves c cs left → left ≡ cs
-all_stay c cs left h none = refl
-all_stay c cs left h (goes d ds es k l) = absurd (h.0 k)
-all_stay c cs left h (stays d ds es k l) = ap (λ (xs : List Cut). d ∷ xs) (all_stay c ds es h.1 l)
-
--- one cut more of the table looked at
-pub leaves_goes : (c : Cut) (ds es : List Cut) (d : Cut) → Within c d → Leaves c ds es → Leaves c (ds ++ d ∷ []) es
-leaves_goes c ds es d w none = goes d [] [] w none
-leaves_goes c ds es d w (goes x xs ys k l) = goes x (xs ++ d ∷ []) es k (leaves_goes c xs es d w l)
-leaves_goes c ds es d w (stays x xs ys k l) = stays x (xs ++ d ∷ []) ys k (leaves_goes c xs ys d w l)
-
-pub leaves_stays : (c : Cut) (ds es : List Cut) (d : Cut) → (Within c d → ⊥) → Leaves c ds es → Leaves c (ds ++ d ∷ []) (es ++ d ∷ [])
-leaves_stays c ds es d w none = stays d [] [] w none
-leaves_stays c ds es d w (goes x xs ys k l) = goes x (xs ++ d ∷ []) (es ++ d ∷ []) k (leaves_stays c xs es d w l)
-leaves_stays c ds es d w (stays x xs ys k l) = stays x (xs ++ d ∷ []) (ys ++ d ∷ []) k (leaves_stays c xs ys d w l)
+-- what `retain` leaves where it keeps just the cuts that c does not lie within
+pub leaves_retained : {F : Type 0} (R : F → Cut → Bool → F → Cut → Type 0) (c : Cut) (f : F)
+    → ((x : Cut) (b : Bool) (g : F) (y : Cut) → R f x b g y → MatchBool b (Within c x → ⊥) (Within c x) × (g ≡ f) × (y ≡ x))
+    → (xs ys : List Cut) → RetainsInTurn R f xs ys → Leaves c xs ys
+leaves_retained R c f says [] ys h = subst (λ (es : List Cut). Leaves c [] es) (sym h) none
+leaves_retained R c f says (x ∷ xs) ys h =
+    let said = says x h.0 h.1 h.2 h.3 in
+    let later = leaves_retained R c f says xs h.4 (subst (λ g. RetainsInTurn R g xs h.4) said.1 h.5) in
+    go h.0 h.2 said.0 said.2 h.4 later h.6
+  where
+    go : (b : Bool) (y : Cut) → MatchBool b (Within c x → ⊥) (Within c x) → y ≡ x → (zs : List Cut) → Leaves c xs zs → ys ≡ cond b (y ∷ zs) zs → Leaves c (x ∷ xs) ys
+    go true y out same zs l e = subst (λ (es : List Cut). Leaves c (x ∷ xs) es) (sym (e ∙ ap (λ (z : Cut). z ∷ zs) same)) (stays x xs zs out l)
+    go false y in' same zs l e = subst (λ (es : List Cut). Leaves c (x ∷ xs) es) (sym e) (goes x xs zs in' l)
 
 pub leaves_short : (c : Cut) (ds es : List Cut) → Leaves c ds es → length es ≤ length ds
 leaves_short c ds es none = omega arith
@@ -60,7 +59,7 @@ leaves_touches c b ds es (stays x xs ys k l) (inside y zs w) = inside x xs w
 leaves_touches c b ds es (stays x xs ys k l) (around y zs w) = around x xs w
 leaves_touches c b ds es (stays x xs ys k l) (beyond y zs t) = beyond x xs (leaves_touches c b xs ys l t)
 
-leaves_clash : (c : Cut) (ds es : List Cut) → Leaves c ds es → Clash es → Clash ds
+pub leaves_clash : (c : Cut) (ds es : List Cut) → Leaves c ds es → Clash es → Clash ds
 leaves_clash c ds es none t = t
 leaves_clash c ds es (goes x xs ys k l) t = later x xs (leaves_clash c xs es l t)
 leaves_clash c ds es (stays x xs ys k l) (first y zs t) = first x xs (leaves_touches c x xs ys l t)
@@ -73,10 +72,6 @@ leaves_free c ds es (goes x xs ys k l) n t = leaves_free c xs es l (λ q. n (the
 leaves_free c ds es (stays x xs ys k l) n (inside y zs w) = n (here x xs w)
 leaves_free c ds es (stays x xs ys k l) n (around y zs w) = k w
 leaves_free c ds es (stays x xs ys k l) n (beyond y zs t) = leaves_free c xs ys l (λ q. n (there x xs q)) t
-
-pub no_clash : (cs : List Cut) → length cs ≡ 0 → Clash cs → ⊥
-no_clash cs e (first x xs t) = omega arith
-no_clash cs e (later x xs t) = omega arith
 
 touches_push : (b : Cut) (es : List Cut) (c : Cut) → Touches b (es ++ c ∷ []) → Touches b es ⊎ (Within c b ⊎ Within b c)
 touches_push b [] c (inside y zs w) = inr (inl w)
@@ -99,80 +94,40 @@ clash_push (x ∷ xs) c (first y zs t) =
 clash_push (x ∷ xs) c (later y zs t) = ⊎_elim (λ (k : Clash xs). inl (later x xs k)) (λ (k : Touches c xs). inr (beyond x xs k)) (clash_push xs c t)
 
 -- the table stays without clash
-pub apart_put : (c : Cut) (ds es : List Cut) → (Clash ds → ⊥) → (Covers c ds → ⊥) → Leaves c ds es → Clash (es ++ c ∷ []) → ⊥
-apart_put c ds es apart new l t = ⊎_elim (λ (k : Clash es). apart (leaves_clash c ds es l k)) (λ (k : Touches c es). leaves_free c ds es l new k) (clash_push es c t)
+pub apart_put : (c : Cut) (ds es : List Cut) → (Clash es → ⊥) → (Covers c ds → ⊥) → Leaves c ds es → Clash (es ++ c ∷ []) → ⊥
+apart_put c ds es apart new l t = ⊎_elim apart (λ (k : Touches c es). leaves_free c ds es l new k) (clash_push es c t)
 
-pub covered_at : (c : Cut) (cs : List Cut) (i : ℕ) → i < length cs → Within (get_or cs i no_cut) c → Covers c cs
+covered_at : (c : Cut) (cs : List Cut) (i : ℕ) → i < length cs → HoldsAt (λ d. Within d c) cs i → Covers c cs
 covered_at c [] i l w = absurd (omega arith)
-covered_at c (d ∷ ds) zero l w = here d ds w
+covered_at c (d ∷ ds) zero l w = here d ds (w d)
 covered_at c (d ∷ ds) (suc i) l w = there d ds (covered_at c ds i (omega arith) w)
 
 -- every cut left has its place, and so has the new one
-leaves_placed : (c : Cut) (ds es : List Cut) → Leaves c ds es → Misplaced es → Misplaced ds
+pub leaves_placed : (c : Cut) (ds es : List Cut) → Leaves c ds es → Misplaced es → Misplaced ds
 leaves_placed c ds es none t = t
 leaves_placed c ds es (goes x xs ys k l) t = onward x xs (leaves_placed c xs es l t)
 leaves_placed c ds es (stays x xs ys k l) (astray y zs w) = astray x xs w
 leaves_placed c ds es (stays x xs ys k l) (onward y zs t) = onward x xs (leaves_placed c xs ys l t)
 
-placed_push : (es : List Cut) (c : Cut) → c.place < most_places → Misplaced (es ++ c ∷ []) → Misplaced es
+pub placed_push : (es : List Cut) (c : Cut) → c.place < most_places → Misplaced (es ++ c ∷ []) → Misplaced es
 placed_push [] c l (astray y zs w) = absurd (omega arith)
 placed_push [] c l (onward y zs t) = t
 placed_push (x ∷ xs) c l (astray y zs w) = astray x xs w
 placed_push (x ∷ xs) c l (onward y zs t) = onward x xs (placed_push xs c l t)
 
-pub not_misplaced : (cs : List Cut) → length cs ≡ 0 → Misplaced cs → ⊥
-not_misplaced cs e (astray x xs t) = omega arith
-not_misplaced cs e (onward x xs t) = omega arith
+-- tables that hold the same cuts are equal
+pub same_table : (t u : CutTable) → held t ≡ held u → t ≡ u
+same_table t u e = λ i. record {
+  cuts = record { items = e i };
+  few = is_prop→PathP (λ j. length (e j) ≤ room) (λ j f g. le_prop f g) t.few u.few i;
+  apart = is_prop→PathP (λ j. Clash (e j) → ⊥) (λ j f g k x. ⊥_prop (f x) (g x) k) t.apart u.apart i;
+  placed = is_prop→PathP (λ j. Misplaced (e j) → ⊥) (λ j f g k x. ⊥_prop (f x) (g x) k) t.placed u.placed i;
+}
 
--- With the cuts below i looked at, those that c does not lie within stand in the first len places.
-pub record Sifts (c : Cut) (cuts : List Cut) (i : ℕ) (left : List Cut) (len : ℕ) : Type 0 where
-  pub leaves : Leaves c (take i cuts) (take len left)
-  pub long : length left ≡ room
-  pub few : len ≤ i
-
-module _ (c : Cut) (cuts : List Cut) (i : ℕ) (left : List Cut) (len : ℕ) where
-  pub sift_goes : i < length cuts → Within c (get_or cuts i no_cut) → Sifts c cuts i left len → Sifts c cuts (i + 1) left len
-  sift_goes l w h = record {
-    leaves = subst (λ (ds : List Cut). Leaves c ds (take len left)) (sym (take_more cuts i no_cut l)) (leaves_goes c (take i cuts) (take len left) (get_or cuts i no_cut) w h.leaves);
-    long = h.long;
-    few = omega (arith, h.few);
-  }
-
-  pub sift_stays : i < length cuts → i < room → (Within c (get_or cuts i no_cut) → ⊥) → Sifts c cuts i left len → Sifts c cuts (i + 1) (set left len (get_or cuts i no_cut)) (len + 1)
-  sift_stays l lt w h =
-      let d : Cut = get_or cuts i no_cut in
-      let room : len < length left = omega (arith, h.long, h.few) in
-      record {
-        leaves = subst (λ (ds : List Cut). Leaves c ds (take (len + 1) (set left len d))) (sym (take_more cuts i no_cut l))
-            (subst (λ (es : List Cut). Leaves c (take i cuts ++ d ∷ []) es) (sym (take_more_set left len d room)) (leaves_stays c (take i cuts) (take len left) d w h.leaves));
-        long = length-set left len d ∙ h.long;
-        few = omega (arith, h.few);
-      }
-
-  -- as many left as could be held: none went
-  pub sift_full : i ≤ room → length cuts ≡ room → len ≡ room → (Covers c (take i cuts) → ⊥) → Sifts c cuts i left len → Adds (take i cuts) c Full (take i cuts)
-  sift_full le wide e new h =
-      let was : length (take i cuts) ≡ i = length-take-le i cuts (omega arith) in
-      let now : length (take len left) ≡ len = length-take-le len left (omega (arith, h.long)) in
-      let same : take len left ≡ take i cuts = leaves_all c (take i cuts) (take len left) h.leaves (omega (arith, h.few)) in
-      full (take i cuts) new (subst (λ (es : List Cut). Leaves c (take i cuts) es) same h.leaves) (omega (arith, h.few))
-
-  sift_put_last : len < room → Sifts c cuts i left len → take (len + 1) (set left len c) ≡ take len left ++ c ∷ []
-  sift_put_last lt h = take_more_set left len c (omega (arith, h.long))
-
-  pub sift_put : len < room → (Covers c (take i cuts) → ⊥) → Sifts c cuts i left len → Adds (take i cuts) c Put (take (len + 1) (set left len c))
-  sift_put lt new h =
-      let now : length (take len left) ≡ len = length-take-le len left (omega (arith, h.long)) in
-      subst (λ (es : List Cut). Adds (take i cuts) c Put es) (sym (sift_put_last lt h)) (put (take len left) new h.leaves (omega arith))
-
-  pub sift_apart : len < room → (Clash (take i cuts) → ⊥) → (Covers c (take i cuts) → ⊥) → Sifts c cuts i left len → Clash (take (len + 1) (set left len c)) → ⊥
-  sift_apart lt apart new h t = apart_put c (take i cuts) (take len left) apart new h.leaves (subst (λ (es : List Cut). Clash es) (sift_put_last lt h) t)
-
-  pub sift_placed : len < room → c.place < most_places → (Misplaced (take i cuts) → ⊥) → Sifts c cuts i left len → Misplaced (take (len + 1) (set left len c)) → ⊥
-  sift_placed lt near placed h t = placed (leaves_placed c (take i cuts) (take len left) h.leaves (placed_push (take len left) c near (subst (λ (es : List Cut). Misplaced es) (sift_put_last lt h) t)))
-
-pub sifts_at : (c : Cut) (cuts : List Cut) (i : ℕ) {left left' : List Cut} {len len' : ℕ} → left' ≡ left → len' ≡ len → Sifts c cuts i left len → Sifts c cuts i left' len'
-sifts_at c cuts i {left} {left'} {len} {len'} p q h = subst (λ (l : List Cut). Sifts c cuts i l len') (sym p) (subst (λ (n : ℕ). Sifts c cuts i left n) (sym q) h)
+-- a cut of the list lies within c, or none does
+pub covered_found : (c : Cut) (cs : List Cut) (r : Bool) → MatchBool r ((k : ℕ) × (k < length cs) × HoldsAt (λ d. Within d c) cs k) (AllWithin (λ d. Within d c → ⊥) cs 0 (length cs)) → Exactly r (Covers c cs)
+covered_found c cs true h = covered_at c cs h.0 h.1 h.2
+covered_found c cs false h = not_covered c cs (recursion_from_All (λ d. Within d c → ⊥) cs (All-from_all_within (λ d. Within d c → ⊥) cs h))
 
 -- of a place that there can be
 pub cut_accepted : {T : Type 0} (place : ℕ) (v : T) (P : T → Type 0) → place < most_places → P v → Answered (cut_refusal place) (Ok v) P

@@ -1,23 +1,8 @@
 -- What a row gives: one job more at its end, and the sets of the jobs at a place.
-use Rattle.std.proofs.Common.{◌≡◌, ℕ, zero, suc, ◌+◌, ◌<◌, ◌≤◌, Bool, true, false, leb, ◌≢◌, ◌⊎◌, List, [], ◌∷◌, ◌++◌, length, get_or, take, set, Some, None, Ok, Decides, sym, refl, ap, ◌∙◌, subst, inl, inr, ⊎_elim, arith}
-use Rattle.std.proofs.lemmas.List.{take_more, take_more_set, get_or-take, get_or-set_other, length-set, length-take-le, ext_get_or}
-use Rattle.std.proofs.lemmas.Option.{slice_get-get_or, slice_get_past}
-use Rattle.std.proofs.lemmas.Bool.{cases_lt, false≢true, le-leb, and_from}
-use Rattle.std.specs.List.{slice_get}
-use Rattle.jobs.specs.Refusals.{Answered}
-use Rattle.jobs.specs.declared.refusal.Refusal.TheVariants.{JobsOutOfRange}
-use Rattle.master.specs.Refused.{refused_unless, jobs_refusal}
-use Rattle.jobs.specs.Sets.{Has, width}
-use Rattle.jobs.specs.Words.{Same, Exactly}
+use Rattle.std.proofs.Common.{◌≡◌, ℕ, zero, suc, ◌+◌, ◌<◌, Bool, false, ◌≢◌, ◌⊎◌, List, [], ◌∷◌, ◌++◌, length, sym, refl, ap, ◌∙◌, subst, inl, inr, ⊎_elim, arith}
+use Rattle.jobs.specs.Sets.{Has}
+use Rattle.jobs.specs.Words.{Same}
 use Rattle.master.specs.Rows.{Gives, Group, Permits, joins_from}
-
--- what is held at k among the first n
-pub nth_front : (n k : ℕ) (xs : List ℕ) → n ≤ length xs → k < n → slice_get (take n xs) k ≡ Some (get_or xs k 0)
-nth_front n k xs l h =
-    slice_get-get_or (take n xs) k 0 (omega (arith, length-take-le n xs l)) ∙ ap Some (get_or-take n xs k 0 h)
-
-pub nth_behind : (n k : ℕ) (xs : List ℕ) → n ≤ length xs → n ≤ k → slice_get (take n xs) k ≡ None
-nth_behind n k xs l h = slice_get_past (take n xs) k (omega (arith, length-take-le n xs l))
 
 pub gives_below : (row : List ℕ) (j p : ℕ) → Gives row j p → j < length row
 gives_below [] j p h = let z : ◌≡◌ {A = ℕ} 0 1 = cc in omega arith
@@ -58,18 +43,6 @@ group_other row x p s ne g j = (
   λ h. ⊎_elim (λ (k : Gives row j p). (g j).1 k) (λ (k : (j ≡ length row) × (p ≡ x)). absurd (ne (sym k.1))) (gives_push row x j p h),
 )
 
--- rows with the same places, and nothing but 0 past them, are the same
-pub same_places : (w n m : ℕ) (xs ys : List ℕ) → length xs ≡ w → length ys ≡ w → n ≡ m → ((k : ℕ) → n ≤ k → get_or xs k 0 ≡ 0) → ((k : ℕ) → m ≤ k → get_or ys k 0 ≡ 0) → take n xs ≡ take m ys → xs ≡ ys
-same_places w n m xs ys lx ly e sx sy h = ext_get_or 0 xs ys (lx ∙ sym ly) (λ i l. ⊎_elim
-    (λ (b : i < n). sym (get_or-take n xs i 0 b) ∙ ap (λ (zs : List ℕ). get_or zs i 0) h ∙ get_or-take m ys i 0 (omega arith))
-    (λ (b : n ≤ i). sx i b ∙ sym (sy i (omega arith)))
-    (cases_lt i n))
-
--- an answer that decides one thing is exact of another that is the same
-pub exactly_decides : {P Q : Type 0} (r : Bool) → Decides r P → (P → Q) → (Q → P) → Exactly r Q
-exactly_decides true d f g = f (d.0 refl)
-exactly_decides false d f g = λ q. let z : ◌≡◌ {A = Bool} false true = d.1 (g q) in false≢true z
-
 -- the last job taken back from its place, or from another one
 pub group_less : (row : List ℕ) (x s t : ℕ) → ((j : ℕ) → Same (Has t j) (Has s j × (j ≡ length row → ⊥))) → Group (row ++ x ∷ []) x s → Group row x t
 group_less row x s t less g j = (
@@ -96,23 +69,3 @@ permits_front b row x h j p g = h j p (gives_still row x j p g)
 pub joins_push : (f price : ℕ → ℕ → ℕ) (total job k : ℕ) (xs : List ℕ) (x : ℕ) → k ≡ job + length xs → joins_from f price total job (xs ++ x ∷ []) ≡ f (joins_from f price total job xs) (price k x)
 joins_push f price total job k [] x e = let q : job ≡ k = omega arith in ap (λ (i : ℕ). f total (price i x)) q
 joins_push f price total job k (y ∷ xs) x e = joins_push f price (f total (price job y)) (suc job) k xs x (omega arith)
-
--- the places of the first jobs written, and nothing but 0 past them
-pub record Filled (places row : List ℕ) (w i : ℕ) : Type 0 where
-  pub long : length row ≡ w
-  pub same : take i row ≡ take i places
-  pub rest : (k : ℕ) → i ≤ k → get_or row k 0 ≡ 0
-
-pub filled_more : (places row : List ℕ) (w i : ℕ) → i < length places → i < w → Filled places row w i → Filled places (set row i (get_or places i 0)) w (i + 1)
-filled_more places row w i l m h =
-    let x = get_or places i 0 in
-    record {
-      long = length-set row i x ∙ h.long;
-      same = take_more_set row i x (omega (arith, h.long)) ∙ ap (λ (r : List ℕ). r ++ x ∷ []) h.same ∙ sym (take_more places i 0 l);
-      rest = λ k le. let ne : k ≢ i = omega arith in get_or-set_other row i k x 0 ne ∙ h.rest k (omega arith);
-    }
-
--- a number of jobs that there can be
-pub jobs_accepted : {T : Type 0} (n : ℕ) (v : T) (P : T → Type 0) → 1 ≤ n → n ≤ width → P v → Answered (jobs_refusal n) (Ok v) P
-jobs_accepted n v P l m p =
-    subst (λ (b : Bool). Answered (refused_unless b JobsOutOfRange) (Ok v) P) (sym (and_from (leb 1 n) (leb n width) (le-leb 1 n l) (le-leb n width m))) p

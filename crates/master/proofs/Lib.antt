@@ -1,10 +1,9 @@
-pub mod Blanks
 pub mod Adding
 pub mod Breaking
 pub mod Climbing
 pub mod Giving
-pub mod Offering
 pub mod Passing
+pub mod SameRows
 pub mod Searching
 pub mod Turning
 pub mod Walking

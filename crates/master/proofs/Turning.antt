@@ -1,14 +1,13 @@
 -- Each turn of the search, at a tariff and a table: it keeps what is known, and less is left.
 use Rattle.std.proofs.Common.{◌≡◌, ℕ, ◌+◌, ◌-◌, ◌^◌, ◌<◌, ◌≤◌, List, get_or, take, Some, None, Option, sym, refl, ◌∙◌, subst, arith}
-use Rattle.std.specs.List.{slice_get}
 use Rattle.master.specs.Master.{Candidate}
 use Rattle.master.specs.Rows.{costs}
 use Rattle.master.specs.Tables.{held}
-use Rattle.master.specs.Tariffs.{job_count, place_count, price_of, barred_in, from_offer}
-use Rattle.master.specs.Walks.{Walks, Walking, left_in, left_of, FindsIn, Matched, Cheaper, Starts, next_place, last_place, Sized, Skips, Takes, Deepens, Backs, Worth, Worthless}
+use Rattle.master.specs.Tariffs.{job_count, place_count, terms_of, from_terms, price_of, barred_in}
+use Rattle.master.specs.Walks.{Walks, Walking, left_in, left_of, FindsIn, Matched, Cheaper, Starts, next_place, last_place, Skips, Takes, Deepens, Backs, Worth, Worthless}
 use Rattle.master.specs.Walks.Worthless.{barred, dear, broken}
 use Rattle.master.specs.declared.groups.Groups.{Groups}
-use Rattle.master.specs.declared.offer.Offer.{Offer}
+use Rattle.master.specs.declared.offer.Terms.{Terms}
 use Rattle.master.specs.declared.priced.Priced.{Priced}
 use Rattle.master.specs.declared.table.CutTable.{CutTable}
 use Rattle.master.specs.declared.tariff.Tariff.{Tariff}
@@ -18,11 +17,11 @@ use Rattle.master.proofs.Walking as walking
 
 -- prices are small
 pub price_fits : (t : Tariff) (j p : ℕ) → price_of t j p < 2 ^ 32
-price_fits t j p = go (slice_get t.offers j)
+price_fits t j p = go (terms_of t j p)
   where
-    go : (o : Option Offer) → from_offer (λ x. get_or x.prices p 0) 0 o < 2 ^ 32
+    go : (o : Option Terms) → from_terms (λ m. m.price) 0 o < 2 ^ 32
     go None = omega arith
-    go (Some x) = omega (arith, x.low p)
+    go (Some m) = omega (arith, m.low)
 
 module _ (joined : ℕ → ℕ → ℕ) (t : Tariff) (cuts : CutTable) (w : Walk) (h : Walking joined t cuts w) where
   abbrev Turned : Walk → Type 0
@@ -39,9 +38,6 @@ module _ (joined : ℕ → ℕ → ℕ) (t : Tariff) (cuts : CutTable) (w : Walk
             (subst (λ (a : ℕ). W row totals groups a v.best) (sym s) (subst (λ (a : Option Priced). W row totals groups depth a) (sym u) k)))),
         subst (λ (a : List ℕ). L a v.depth) (sym p) (subst (λ (a : ℕ). L row a) (sym s) l),
       )
-
-  pub sized : Sized w
-  sized = record { row_long = h.row_long; totals_long = h.totals_long; deep = omega (arith, h.deep, h.few) }
 
   -- the place of the job before is one that there is
   pub last_below : 0 < w.depth → last_place w < place_count t
@@ -62,18 +58,18 @@ module _ (joined : ℕ → ℕ → ℕ) (t : Tariff) (cuts : CutTable) (w : Walk
 
   -- the next place leads to nothing better
   pub turn_skip : Climbs joined → (v : Walk) (total : ℕ) → total ≡ joined (get_or w.totals w.depth 0) (price_of t w.depth (next_place w)) → next_place w < place_count t
-      → Worthless t cuts w total → Skips w w.best v → Turned v
+      → Worthless t cuts w w.depth (next_place w) total → Skips w w.depth (next_place w) w.best v → Turned v
   turn_skip climbs v total is lt why s =
       moved v s.row_is s.totals_is s.groups_is s.depth_is s.best_is (walking.walk_skip _ _ _ _ _ _ _ _ _ _ _ h lt (over why)) (walking.next_less _ _ _ _ _ _ _ _ _ _ _ h lt)
     where
-      over : Worthless t cuts w total → (r : List ℕ) → Candidate (job_count t) (place_count t) (barred_in t) (held cuts) r → Starts (take w.depth w.row) (next_place w) r → Matched (costs joined (price_of t) r) w.best
+      over : Worthless t cuts w w.depth (next_place w) total → (r : List ℕ) → Candidate (job_count t) (place_count t) (barred_in t) (held cuts) r → Starts (take w.depth w.row) (next_place w) r → Matched (costs joined (price_of t) r) w.best
       over (barred e) = walking.skip_barred _ _ _ _ _ _ _ _ _ _ _ h e
       over (dear m) = walking.skip_dear _ _ _ _ _ _ _ _ _ _ _ h climbs (price_fits t) total is m
       over (broken b) = walking.skip_broken _ _ _ _ _ _ _ _ _ _ _ h b
 
   -- on to the next job
   pub turn_deepen : (v : Walk) (total : ℕ) → total ≡ joined (get_or w.totals w.depth 0) (price_of t w.depth (next_place w)) → next_place w < place_count t → w.depth + 1 < job_count t
-      → Worth t cuts w total → Deepens w total v → Turned v
+      → Worth t cuts w w.depth (next_place w) total → Deepens w w.depth (next_place w) total v → Turned v
   turn_deepen v total is lt deeper worth s =
       moved v s.row_is s.totals_is refl s.depth_is s.best_is
       (walking.walk_down _ _ _ _ _ _ _ _ _ _ _ h total v.groups lt deeper worth.free worth.allowed s.groups_is is)
@@ -81,7 +77,7 @@ module _ (joined : ℕ → ℕ → ℕ) (t : Tariff) (cuts : CutTable) (w : Walk
 
   -- the row is whole
   pub turn_take : (v : Walk) (total : ℕ) → total ≡ joined (get_or w.totals w.depth 0) (price_of t w.depth (next_place w)) → next_place w < place_count t → w.depth + 1 ≡ job_count t
-      → Worth t cuts w total → Takes w (job_count t) total v → Turned v
+      → Worth t cuts w w.depth (next_place w) total → Takes w w.depth (next_place w) (job_count t) total v → Turned v
   turn_take v total is lt whole worth s =
       let k = s.skips in
       let costs_less = subst (λ (n : ℕ). Cheaper n w.best) (sym s.cost_is) worth.cheaper in

@@ -1,8 +1,9 @@
 -- Tariffs: the prices in force and the barred pairs.
-use Rattle.std.specs.Prelude.{◌≡◌, ℕ, Bool, false, cond, ◌&&◌, Some, None, Option, ◌==◌, slice_index, slice_index_or}
+use Rattle.std.specs.Prelude.{◌≡◌, ℕ, Bool, false, cond, ◌&&◌, Some, None, Option, ◌==◌}
 use Rattle.std.specs.List.{slice_get}
 use Rattle.master.specs.declared.tariff.Tariff.{Tariff}
 use Rattle.master.specs.declared.offer.Offer.{Offer}
+use Rattle.master.specs.declared.offer.Terms.{Terms}
 
 abbrev pub job_count : Tariff → ℕ
 job_count t = t.jobs
@@ -10,18 +11,26 @@ job_count t = t.jobs
 abbrev pub place_count : Tariff → ℕ
 place_count t = t.places
 
--- what is read of a job's offer; where there is no such job, what there is at first
-abbrev pub from_offer : {X : Type 0} → (Offer → X) → X → Option Offer → X
-from_offer f x (Some o) = f o
-from_offer f x None = x
+-- a job's terms at a place, where there are such a job and such a place
+abbrev pub offer_terms : ℕ → Option Offer → Option Terms
+offer_terms place (Some o) = slice_get o.terms place
+offer_terms place None = None
+
+abbrev pub terms_of : Tariff → ℕ → ℕ → Option Terms
+terms_of t job place = offer_terms place (slice_get t.offers job)
+
+-- what is read of terms; where there are none, what there is at first
+abbrev pub from_terms : {X : Type 0} → (Terms → X) → X → Option Terms → X
+from_terms f x (Some m) = f m
+from_terms f x None = x
 
 -- the price of a job at a place
 abbrev pub price_of : Tariff → ℕ → ℕ → ℕ
-price_of t job place = from_offer (λ o. slice_index o.prices place) 0 (slice_get t.offers job)
+price_of t job place = from_terms (λ m. m.price) 0 (terms_of t job place)
 
 -- whether the place is barred to the job
 abbrev pub barred_in : Tariff → ℕ → ℕ → Bool
-barred_in t job place = from_offer (λ o. slice_index_or o.barred place false) false (slice_get t.offers job)
+barred_in t job place = from_terms (λ m. m.barred) false (terms_of t job place)
 
 -- a table with the entry of one pair replaced
 abbrev pub replaced : {X : Type 0} → (ℕ → ℕ → X) → ℕ → ℕ → X → ℕ → ℕ → X
@@ -30,6 +39,12 @@ replaced table job place x j p = cond (job == j && place == p) x (table j p)
 -- two tables with the same entries
 abbrev pub Alike : {X : Type 0} → (ℕ → ℕ → X) → (ℕ → ℕ → X) → Type 0
 Alike a b = (job place : ℕ) → a job place ≡ b job place
+
+-- the terms of one pair set, and nothing else changed
+pub record SetsTerms (t : Tariff) (job place : ℕ) (m : Terms) (u : Tariff) : Type 0 where
+  pub jobs_are : job_count u ≡ job_count t
+  pub places_are : place_count u ≡ place_count t
+  pub terms_are : Alike (terms_of u) (replaced (terms_of t) job place (Some m))
 
 -- a tariff with nothing set: every price 0, every pair permitted
 pub record Blank (jobs places : ℕ) (t : Tariff) : Type 0 where

@@ -64,26 +64,20 @@ next_place w = slice_index w.row w.depth
 abbrev pub last_place : Walk → ℕ
 last_place w = slice_index w.row (w.depth - 1)
 
--- what indexing wants
-pub record Sized (w : Walk) : Type 0 where
-  pub row_long : length w.row ≡ width
-  pub totals_long : length w.totals ≡ width
-  pub deep : w.depth < width
-
--- the next place for the same job, with what is the best found then
-pub record Skips (w : Walk) (best : Option Priced) (v : Walk) : Type 0 where
-  pub row_is : v.row ≡ slice_set w.row w.depth (next_place w + 1)
+-- the place after this one for the same job, with what is the best found then
+pub record Skips (w : Walk) (job place : ℕ) (best : Option Priced) (v : Walk) : Type 0 where
+  pub row_is : v.row ≡ slice_set w.row job (place + 1)
   pub totals_is : v.totals ≡ w.totals
   pub groups_is : v.groups ≡ w.groups
   pub depth_is : v.depth ≡ w.depth
   pub best_is : v.best ≡ best
 
--- on to the next job
-pub record Deepens (w : Walk) (total : ℕ) (v : Walk) : Type 0 where
-  pub row_is : v.row ≡ slice_set w.row (w.depth + 1) 0
-  pub totals_is : v.totals ≡ slice_set w.totals (w.depth + 1) total
-  pub groups_is : JoinsGroup w.groups (next_place w) w.depth v.groups
-  pub depth_is : v.depth ≡ w.depth + 1
+-- on to the next job, from this one at this place
+pub record Deepens (w : Walk) (job place total : ℕ) (v : Walk) : Type 0 where
+  pub row_is : v.row ≡ slice_set w.row (job + 1) 0
+  pub totals_is : v.totals ≡ slice_set w.totals (job + 1) total
+  pub groups_is : JoinsGroup w.groups place job v.groups
+  pub depth_is : v.depth ≡ job + 1
   pub best_is : v.best ≡ w.best
 
 -- back to the job before, and there to the next place
@@ -138,21 +132,21 @@ left_in t w = left_of (job_count t) (place_count t) w.row w.depth
 abbrev pub FindsIn : (ℕ → ℕ → ℕ) → Tariff → CutTable → Option Priced → Type 0
 FindsIn joined t cuts found = Finds (job_count t) (place_count t) joined (price_of t) (barred_in t) (held cuts) found
 
--- the next place is permitted, costs less so far than the best found, and breaks no cut
-pub record Worth (t : Tariff) (cuts : CutTable) (w : Walk) (total : ℕ) : Type 0 where
-  pub free : barred_in t w.depth (next_place w) ≡ false
+-- the place is permitted to the job, costs less so far than the best found, and breaks no cut
+pub record Worth (t : Tariff) (cuts : CutTable) (w : Walk) (job place total : ℕ) : Type 0 where
+  pub free : barred_in t job place ≡ false
   pub cheaper : Cheaper total w.best
-  pub allowed : Obeys (take w.depth w.row ++ next_place w ∷ []) (held cuts)
+  pub allowed : Obeys (take job w.row ++ place ∷ []) (held cuts)
 
 -- or one of these fails
-pub data Worthless (t : Tariff) (cuts : CutTable) (w : Walk) (total : ℕ) : Type 0 where
-  barred : barred_in t w.depth (next_place w) ≡ true → Worthless t cuts w total
-  dear : Matched total w.best → Worthless t cuts w total
-  broken : (Obeys (take w.depth w.row ++ next_place w ∷ []) (held cuts) → ⊥) → Worthless t cuts w total
+pub data Worthless (t : Tariff) (cuts : CutTable) (w : Walk) (job place total : ℕ) : Type 0 where
+  barred : barred_in t job place ≡ true → Worthless t cuts w job place total
+  dear : Matched total w.best → Worthless t cuts w job place total
+  broken : (Obeys (take job w.row ++ place ∷ []) (held cuts) → ⊥) → Worthless t cuts w job place total
 
--- the row, whole with the next place, is the best found now
-pub record Takes (w : Walk) (jobs cost : ℕ) (v : Walk) : Type 0 where
+-- the row, whole with this pair, is the best found now
+pub record Takes (w : Walk) (job place jobs cost : ℕ) (v : Walk) : Type 0 where
   pub found : Priced
   pub row_is : row_places found.row ≡ take jobs w.row
   pub cost_is : found.cost ≡ cost
-  pub skips : Skips w (Some found) v
+  pub skips : Skips w job place (Some found) v

@@ -2,13 +2,13 @@
 ghost use Rattle.std.specs.Prelude.{◌≡◌, ℕ, ◌<◌, take, MatchBool};
 ghost use Rattle.master.specs.Cuts.{Obeys};
 ghost use Rattle.master.specs.Master.{Finds, OneBest};
-ghost use Rattle.master.specs.Refused.{most_places};
 ghost use Rattle.master.specs.Rows.{Group};
 ghost use Rattle.master.specs.Tables.{held};
 ghost use Rattle.master.specs.Tariffs.{job_count, place_count, price_of, barred_in};
-ghost use Rattle.master.specs.Walks.{Matched, Cheaper, Sized, Worth, Worthless, Walking, left_in, FindsIn, next_place, group_at};
+ghost use Rattle.master.specs.Walks.{Matched, Cheaper, Worth, Worthless, Walking, left_in, FindsIn, group_at};
 
 use crate::measure::Measure;
+use crate::pair::Pair;
 use crate::priced::Priced;
 use crate::table::CutTable;
 use crate::tariff::Tariff;
@@ -18,32 +18,26 @@ use crate::walk::Walk;
 fn is_matched(best: &Option<Priced>, total: u32) -> bool
     ensures { MatchBool result (Matched total best.now) (Cheaper total best.now) }
 {
-    match best {
-        Some(found) => found.cost <= total,
-        None => false,
-    }
+    best.is_some_and(|found| found.cost <= total)
 }
 
-// Whether the next place may lead to a better row than what was found.
-fn is_worth(walk: &Walk, tariff: &Tariff, cuts: &CutTable, total: u32) -> bool
-    requires sized { Sized walk.now }
-    requires place { next_place walk.now < most_places }
-    requires grouped { Group (take walk.now.depth walk.now.row) (next_place walk.now) (group_at walk.now.groups (next_place walk.now)) }
-    requires obeying { Obeys (take walk.now.depth walk.now.row) (held cuts.now) }
-    ensures { MatchBool result (Worth tariff.now cuts.now walk.now total) (Worthless tariff.now cuts.now walk.now total) }
+// Whether the pair may lead to a better row than what was found.
+fn is_worth(walk: &Walk, pair: Pair, tariff: &Tariff, cuts: &CutTable, total: u32) -> bool
+    requires grouped { Group (take pair.job walk.now.row) pair.place (group_at walk.now.groups pair.place) }
+    requires obeying { Obeys (take pair.job walk.now.row) (held cuts.now) }
+    ensures { MatchBool result (Worth tariff.now cuts.now walk.now pair.job pair.place total) (Worthless tariff.now cuts.now walk.now pair.job pair.place total) }
 {
-    let job = walk.depth;
-    let place = walk.row[job];
-    if tariff.barred_at(job, place as usize) {
+    if tariff.barred_at(pair) {
         return false;
     }
     if is_matched(&walk.best, total) {
         return false;
     }
-    cuts.allows(job as u32, place, walk.groups.at(place as usize))
+    let group = walk.groups.at(pair.place as usize);
+    cuts.allows(pair.job as u32, pair.place, group)
 }
 
-// One turn of the search; false when it is over.
+// One turn of the search; false when it is over. What it reads is passed on as it came, to two calls.
 fn turn<M: Measure>(walk: &mut Walk, measure: &M, tariff: &Tariff, cuts: &CutTable) -> bool
     requires { Walking (M.Measure.joins measure.now) tariff.now cuts.now walk.old }
     ensures { MatchBool result
@@ -59,17 +53,18 @@ fn turn<M: Measure>(walk: &mut Walk, measure: &M, tariff: &Tariff, cuts: &CutTab
         walk.back();
         return true;
     }
-    let price = tariff.price_at(job, place as usize);
+    let pair = Pair { job, place };
+    let price = tariff.price_at(pair);
     let total = measure.join(walk.totals[job], price);
-    if !is_worth(walk, tariff, cuts, total) {
-        walk.skip();
+    if !is_worth(walk, pair, tariff, cuts, total) {
+        walk.skip(pair);
         return true;
     }
     if job + 1 < tariff.jobs() as usize {
-        walk.deepen(total);
+        walk.deepen(pair, total);
         return true;
     }
-    walk.take(tariff.jobs(), total);
+    walk.take(pair, tariff.jobs(), total);
     true
 }
 

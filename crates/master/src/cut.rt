@@ -4,7 +4,7 @@ ghost use Rattle.std.specs.Prelude.{ℕ};
 use jobs::set::JobSet;
 
 // No assignment may give all the jobs of the set to the place.
-#[derive(Clone, Copy)]
+#[derive(Clone, Copy, Default)]
 pub struct Cut {
     pub place: u8,
     pub set: JobSet,

@@ -6,6 +6,7 @@ pub mod cut;
 mod groups;
 pub mod measure;
 mod offer;
+mod pair;
 pub mod priced;
 pub mod row;
 mod sets;

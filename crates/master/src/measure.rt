@@ -29,6 +29,7 @@ pub struct Sum {}
 #[derive(Clone, Copy)]
 pub struct Worst {}
 
+// Each measure shows the laws of its own join, though the check finds all of them alone.
 impl Measure for Sum {
     ghost joins = { λ _. held_sum };
 

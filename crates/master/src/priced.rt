@@ -1,7 +1,7 @@
 // A row with its cost.
 use crate::row::Row;
 
-#[derive(Clone, Copy)]
+#[derive(Clone, Copy, PartialEq, Eq, Debug)]
 pub struct Priced {
     pub row: Row,
     pub cost: u32,

@@ -1,4 +1,5 @@
 // A row: the place of each job. Entries past the jobs are 0, so that rows with the same places are the same.
+// It is an array and no vector, since rows are copied.
 ghost use Rattle.std.specs.Prelude.{◌≡◌, ℕ, ◌≤◌, length, slice_index};
 ghost use Rattle.jobs.specs.Sets.{width};
 
@@ -6,7 +7,7 @@ use jobs::set::JOBS;
 
 pub mod calls;
 
-#[derive(Clone, Copy)]
+#[derive(Clone, Copy, PartialEq, Eq, Debug)]
 pub struct Row {
     places: [u8; JOBS],
     jobs: u8,

@@ -9,8 +9,5 @@ pub(crate) fn include(set: JobSet, job: u32) -> JobSet
     ensures more { job < width → (j : ℕ) → Same (Has (bits result) j) (Has (bits set) j ⊎ (j ≡ job)) }
     ensures past { width ≤ job → result ≡ set }
 {
-    match set.with(job) {
-        Ok(more) => more,
-        Err(_) => set,
-    }
+    set.with(job).unwrap_or(set)
 }

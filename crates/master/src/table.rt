@@ -1,8 +1,9 @@
-// The cuts held, in the first `len` entries, in the order in which they were put.
-ghost use Rattle.std.specs.Prelude.{◌≡◌, ℕ, ◌≤◌, length, take};
+// The cuts held, in the order in which they were put.
+ghost use Rattle.std.specs.Prelude.{◌≤◌, length};
 ghost use Rattle.master.specs.Cuts.{room, Clash, Misplaced};
 
 use crate::cut::Cut;
+use arrayvec::ArrayVec;
 
 pub mod calls;
 
@@ -11,10 +12,8 @@ pub const ROOM: usize = 512;
 
 #[derive(Drop)]
 pub struct CutTable {
-    cuts: [Cut; ROOM],
-    len: usize,
-    ghost wide: { length cuts ≡ room },
-    ghost few: { len ≤ room },
-    ghost apart: { (Clash (take len cuts) → ⊥) },
-    ghost placed: { (Misplaced (take len cuts) → ⊥) },
+    cuts: ArrayVec<Cut, ROOM>,
+    ghost few: { length cuts.items ≤ room },
+    ghost apart: { (Clash cuts.items → ⊥) },
+    ghost placed: { (Misplaced cuts.items → ⊥) },
 }

@@ -1,7 +1,7 @@
 -- What a judgement comes to, place by place.
-use Rattle.std.proofs.Common.{◌≡◌, ℕ, suc, ◌+◌, ◌^◌, ◌<◌, ◌≤◌, Bool, true, false, ◌≢◌, List, length, sym, refl, ap, subst, inl, inr, ⊎_elim, arith}
-use Rattle.std.specs.List.{AllByRecursion}
-use Rattle.std.proofs.ByRecursion.{All-weaker, All-push}
+use Rattle.std.proofs.Common.{◌≡◌, ℕ, suc, ◌+◌, ◌^◌, ◌<◌, ◌≤◌, Bool, true, false, Ok, Err, ◌≢◌, List, length, sym, refl, ap, subst, inl, inr, ⊎_elim, arith}
+use Rattle.std.specs.List.{All}
+use Rattle.std.proofs.lemmas.List.Elements.{All-weaker, All-push, All-from_recursion}
 use Rattle.std.proofs.lemmas.List.{length_push}
 use Rattle.std.proofs.lemmas.Bool.{cases_eq, false≢true}
 use Rattle.jobs.specs.Sets.{width, bits, Part, without, jobs_of}
@@ -11,7 +11,6 @@ use Rattle.facilities.proofs.Shrinking.{shrinks_more, shrunk_minimal}
 use Rattle.workshops.specs.Stances.{Stopped}
 use Rattle.workshops.specs.Workshops.{Meaning, Lawful}
 use Rattle.workshops.specs.declared.reply.Fault.{Fault}
-use Rattle.workshops.specs.declared.reply.Reply.TheVariants.{Yes, No, Stop}
 use Rattle.master.specs.Cuts.{room, cut_of, Breaks, Obeys}
 use Rattle.master.specs.Rows.{Group}
 use Rattle.master.specs.declared.cut.Addition.{Addition}
@@ -47,8 +46,8 @@ module _ {W J : Type 0} (m : Meaning W) (joins : J → ℕ → ℕ → ℕ) (w :
     -- with the places below the given one judged
     pub record Progress (old : List Cut) (place : ℕ) (v : W) (cs : List Cut) (count : ℕ) (all : Bool) : Type 0 where
       pub faithful : Faithful m w v
-      pub minimal : AllByRecursion (Minimal m joins w measure n) cs
-      pub fresh : AllByRecursion (Fresh row place) cs
+      pub minimal : All (Minimal m joins w measure n) cs
+      pub fresh : All (Fresh row place) cs
       pub number : length cs ≡ length old + count
       pub unanimous : all ≡ true → count ≡ 0
       pub opposed : all ≡ false → 0 < count
@@ -63,7 +62,7 @@ module _ {W J : Type 0} (m : Meaning W) (joins : J → ℕ → ℕ → ℕ) (w :
 
     pub record Ended (old : List Cut) (o : Outcome) (v : W) (cs : List Cut) : Type 0 where
       pub faithful : Faithful m w v
-      pub minimal : AllByRecursion (Minimal m joins w measure n) cs
+      pub minimal : All (Minimal m joins w measure n) cs
       pub number : length cs ≡ length old + tallied o
       pub tells : Tells o v cs
 
@@ -74,32 +73,32 @@ module _ {W J : Type 0} (m : Meaning W) (joins : J → ℕ → ℕ → ℕ) (law
   tried place set u lt f js t v tries_start = (f, refl)
   tried place set u lt f js t v (needed ks j t' v₀ v₁ before ask) =
       let h = tried place set u lt f ks t v₀ before in (
-        faithful_asked m laws w v₀ v place (without t j) h.0 lt Yes ask,
+        faithful_asked m laws w v₀ v place (without t j) h.0 lt (Ok true) ask,
         shrinks_more (m.family w place) ks set t j t h.1 (stays (said_yes m laws w v₀ v place (without t j) h.0 lt ask) refl),
       )
   tried place set u lt f js t v (spared ks j t' v₀ v₁ before ask) =
       let h = tried place set u lt f ks t' v₀ before in (
-        faithful_asked m laws w v₀ v place (without t' j) h.0 lt No ask,
+        faithful_asked m laws w v₀ v place (without t' j) h.0 lt (Ok false) ask,
         shrinks_more (m.family w place) ks set t' j (without t' j) h.1 (goes (said_no m laws w v₀ v place (without t' j) h.0 lt ask) refl),
       )
 
-  refines : (place set t : ℕ) (v v₁ u : W) → place < m.count w → set < 2 ^ width → Faithful m w v → Asked m v place set No v₁ → Tries m place set v₁ (jobs_of set) t u
+  refines : (place set t : ℕ) (v v₁ u : W) → place < m.count w → set < 2 ^ width → Faithful m w v → Asked m v place set (Ok false) v₁ → Tries m place set v₁ (jobs_of set) t u
       → Refines m joins w measure n place set t u
   refines place set t v v₁ u lt small f ask tries =
-      let h = tried place set v₁ lt (faithful_asked m laws w v v₁ place set f lt No ask) (jobs_of set) t u tries in
+      let h = tried place set v₁ lt (faithful_asked m laws w v v₁ place set f lt (Ok false) ask) (jobs_of set) t u tries in
       let s : Smallest (m.family w place) set t =
       shrunk_minimal (m.family w place) (λ part whole p y. laws.parts w place part whole lt p y) set t small (record { fails = said_no m laws w v v₁ place set f lt ask; shrinks = h.1 }) in
       record { faithful = h.0; part = s.part; minimal = record { place = lt; fails = s.fails; nearly = s.tight } }
 
   module _ (row : List ℕ) where
-    fresh_next : (place : ℕ) (cs : List Cut) → AllByRecursion (Fresh row place) cs → AllByRecursion (Fresh row (suc place)) cs
+    fresh_next : (place : ℕ) (cs : List Cut) → All (Fresh row place) cs → All (Fresh row (suc place)) cs
     fresh_next place cs h = All-weaker (Fresh row place) (Fresh row (suc place)) (λ d f. ⊎_elim inl (λ (lt : d.place < place). inr (omega arith)) f) cs h
 
     -- the place said yes
     next_passed : (old : List Cut) (place set : ℕ) (v v' : W) (cs cs' : List Cut) (count : ℕ) (all : Bool) → place < m.count w → Progress m joins w measure n row old place v cs count all
         → Group row place set → Puts m place set v cs Passed v' cs' → Progress m joins w measure n row old (suc place) v' cs' count all
     next_passed old place set v v' cs cs' count all lt h g (passed v'' ask) = record {
-      faithful = faithful_asked m laws w v v' place set h.faithful lt Yes ask;
+      faithful = faithful_asked m laws w v v' place set h.faithful lt (Ok true) ask;
       minimal = h.minimal;
       fresh = fresh_next place cs h.fresh;
       number = h.number;
@@ -123,20 +122,20 @@ module _ {W J : Type 0} (m : Meaning W) (joins : J → ℕ → ℕ → ℕ) (law
         put_last m joins laws w measure n c r.minimal.fails cs cs' a h.minimal (never_covered row place set t cs g r.part h.fresh) few ad in
         record {
           faithful = r.faithful;
-          minimal = subst (λ (xs : List Cut). AllByRecursion (Minimal m joins w measure n) xs) (sym l.cuts) (All-push (Minimal m joins w measure n) cs c h.minimal r.minimal);
-          fresh = subst (λ (xs : List Cut). AllByRecursion (Fresh row (suc place)) xs) (sym l.cuts) (All-push (Fresh row (suc place)) cs c (fresh_next place cs h.fresh) (inr (omega arith)));
+          minimal = subst (λ (xs : List Cut). All (Minimal m joins w measure n) xs) (sym l.cuts) (All-push (Minimal m joins w measure n) cs c h.minimal r.minimal);
+          fresh = subst (λ (xs : List Cut). All (Fresh row (suc place)) xs) (sym l.cuts) (All-push (Fresh row (suc place)) cs c (fresh_next place cs h.fresh) (inr (omega arith)));
           number = omega (arith, ap length l.cuts, length_push cs c, ap tally l.answer, h.number);
           unanimous = λ e. absurd (false≢true e);
           opposed = λ e. omega (arith, ap tally l.answer);
           scheduled = λ e q s x k. absurd (false≢true e);
         }
 
-    pub progress : length row ≤ width → (u : W) (old : List Cut) → Faithful m w u → AllByRecursion (Minimal m joins w measure n) old → Obeys row old
+    pub progress : length row ≤ width → (u : W) (old : List Cut) → Faithful m w u → All (Minimal m joins w measure n) old → Obeys row old
         → (place : ℕ) (v : W) (cs : List Cut) (count : ℕ) (all : Bool) → place ≤ m.count w → Judges m u old row place v cs count all → Progress m joins w measure n row old place v cs count all
     progress short u old f min obeys place v cs count all le judges_start = record {
       faithful = f;
       minimal = min;
-      fresh = All-weaker (λ d. Breaks row d → ⊥) (Fresh row 0) (λ d h. inl h) old obeys;
+      fresh = All-weaker (λ d. Breaks row d → ⊥) (Fresh row 0) (λ d h. inl h) old (All-from_recursion _ old obeys);
       number = omega arith;
       unanimous = λ e. refl;
       opposed = λ e. absurd (false≢true (sym e));
@@ -150,15 +149,15 @@ module _ {W J : Type 0} (m : Meaning W) (joins : J → ℕ → ℕ → ℕ) (law
     ends_stopped : (old : List Cut) (place set : ℕ) (v v' : W) (cs cs' : List Cut) (count : ℕ) (all : Bool) (x : Fault) → place < m.count w → Progress m joins w measure n row old place v cs count all
         → Puts m place set v cs (StoppingTurn x) v' cs' → Ended m joins w measure n row old (Stopping x count) v' cs'
     ends_stopped old place set v v' cs cs' count all x lt h (stopped y v₁ ask) = record {
-      faithful = faithful_asked m laws w v v' place set h.faithful lt (Stop x) ask;
+      faithful = faithful_asked m laws w v v' place set h.faithful lt (Err x) ask;
       minimal = h.minimal;
       number = h.number;
       tells = stops_again m laws w v v' place set h.faithful lt x ask;
     }
     ends_stopped old place set v v' cs cs' count all x lt h (halted js j rest t y v₁ v₂ v₃ ask few split tries stop) =
-        let k = tried place set v₁ lt (faithful_asked m laws w v v₁ place set h.faithful lt No ask) js t v₂ tries in
+        let k = tried place set v₁ lt (faithful_asked m laws w v v₁ place set h.faithful lt (Ok false) ask) js t v₂ tries in
         record {
-          faithful = faithful_asked m laws w v₂ v' place (without t j) k.0 lt (Stop x) stop;
+          faithful = faithful_asked m laws w v₂ v' place (without t j) k.0 lt (Err x) stop;
           minimal = h.minimal;
           number = h.number;
           tells = stops_again m laws w v₂ v' place (without t j) k.0 lt x stop;
@@ -167,13 +166,13 @@ module _ {W J : Type 0} (m : Meaning W) (joins : J → ℕ → ℕ → ℕ) (law
     ends_full : (old : List Cut) (place set : ℕ) (v v' : W) (cs cs' : List Cut) (count : ℕ) (all : Bool) → place < m.count w → Progress m joins w measure n row old place v cs count all
         → Group row place set → Puts m place set v cs FullTurn v' cs' → Ended m joins w measure n row old (Filling place count) v' cs'
     ends_full old place set v v' cs cs' count all lt h g (full v₁ ask whole) = record {
-      faithful = faithful_asked m laws w v v' place set h.faithful lt No ask;
+      faithful = faithful_asked m laws w v v' place set h.faithful lt (Ok false) ask;
       minimal = h.minimal;
       number = h.number;
       tells = (lt, whole, λ s k y. said_no m laws w v v' place set h.faithful lt ask (subst (λ (i : ℕ). m.family w place i) (group_once row place s set k g) y));
     }
 
-    pub ended : length row ≤ width → (u : W) (old : List Cut) → Faithful m w u → AllByRecursion (Minimal m joins w measure n) old → Obeys row old
+    pub ended : length row ≤ width → (u : W) (old : List Cut) → Faithful m w u → All (Minimal m joins w measure n) old → Obeys row old
         → (o : Outcome) (v : W) (cs : List Cut) → Ends m u old row (m.count w) o v cs → Ended m joins w measure n row old o v cs
     ended short u old f min obeys o v cs (agreed v₁ cs₁ count j) =
         let h = progress short u old f min obeys (m.count w) v cs count true (omega arith) j in

@@ -1,13 +1,11 @@
 -- A workshop through its questions and grants: what it was made with stays, and its replies are true.
-use Rattle.std.proofs.Common.{◌≡◌, ℕ, ◌<◌, sym, refl, ap, ◌∙◌, subst}
+use Rattle.std.proofs.Common.{◌≡◌, ℕ, Bool, true, false, Ok, Err, Result, ◌<◌, sym, refl, ap, ◌∙◌, subst}
 use Rattle.jobs.specs.Sets.{bits}
 use Rattle.jobs.specs.declared.set.JobSet.{JobSet}
 use Rattle.workshops.specs.Stances.{Stopped}
 use Rattle.workshops.specs.Replies.{given}
 use Rattle.workshops.specs.Workshops.{Meaning, Kept, Lawful}
 use Rattle.workshops.specs.declared.reply.Fault.{Fault}
-use Rattle.workshops.specs.declared.reply.Reply.{Reply}
-use Rattle.workshops.specs.declared.reply.Reply.TheVariants.{Yes, No, Stop}
 use Rattle.workshops.specs.KeptFacts.{kept_same, kept_trans}
 use Rattle.judging.specs.Judging.{Asked}
 
@@ -31,7 +29,7 @@ module _ {W : Type 0} (m : Meaning W) (laws : Lawful m) (w : W) where
   }
 
   module _ (v v' : W) (place set : ℕ) (f : Faithful m w v) (lt : place < m.count w) where
-    pub faithful_asked : (r : Reply) → Asked m v place set r v' → Faithful m w v'
+    pub faithful_asked : (r : Result Bool Fault) → Asked m v place set r v' → Faithful m w v'
     faithful_asked r ask =
         let here : place < m.count v = within v place f.kept lt in
         record {
@@ -39,14 +37,14 @@ module _ {W : Type 0} (m : Meaning W) (laws : Lawful m) (w : W) where
           sound = laws.sound v v' place set (given r) here ask.asks (ask.truth f.sound) f.sound;
         }
 
-    pub said_yes : Asked m v place set Yes v' → m.family w place set
+    pub said_yes : Asked m v place set (Ok true) v' → m.family w place set
     said_yes ask = (f.kept.family place set lt).1 (ask.truth f.sound)
 
-    pub said_no : Asked m v place set No v' → m.family w place set → ⊥
+    pub said_no : Asked m v place set (Ok false) v' → m.family w place set → ⊥
     said_no ask h = ask.truth f.sound ((f.kept.family place set lt).0 h)
 
     -- a workshop that stopped would stop that question again, with the same fault
-    pub stops_again : (x : Fault) → Asked m v place set (Stop x) v'
+    pub stops_again : (x : Fault) → Asked m v place set (Err x) v'
         → (x.place < m.count w) × (m.stance v' x.place (bits x.set) ≡ Stopped x.cause x.depth)
     stops_again x ask =
         let a = ask.answers in

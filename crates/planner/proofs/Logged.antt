@@ -2,13 +2,12 @@
 use Rattle.std.proofs.Common.{◌≡◌, ℕ, ◌+◌, Bool, List, [], ◌∷◌, length, None, Option, sym, refl, ap, ◌∙◌, arith}
 use Rattle.jobs.specs.declared.refusal.Refusal.{Refusal}
 use Rattle.workshops.specs.Workshops.{Meaning, Lawful}
-use Rattle.master.specs.Refused.{tariff_refusal}
 use Rattle.master.specs.Tariffs.{replaced}
 use Rattle.judging.specs.declared.outcome.Outcome.{Outcome}
 use Rattle.judging.specs.declared.outcome.Outcome.TheVariants.{Agreed, Cut as Cutting, Stopped as Stopping, Full as Filling}
 use Rattle.planner.specs.Calls.{Call, Price, Bar, Grant, Propose, Judge, Answer, Refused, Event, event, if_refused, reports}
 use Rattle.planner.specs.States.{State, fresh}
-use Rattle.planner.specs.Steps.{places, end_of, Accepts, Step}
+use Rattle.planner.specs.Steps.{sizes_refusal, end_of, Accepts, Step}
 use Rattle.planner.specs.Steps.Accepts.{price, bar, grant, proposal, none, judgement}
 use Rattle.planner.specs.Steps.Step.{refused, accepted}
 use Rattle.planner.specs.Runs.{price_after, price_now, barred_after, barred_now, pending_after, pending_now, judgements_after, judgements, reported}
@@ -72,7 +71,7 @@ module _ {W J : Type 0} (m : Meaning W) (joins : J → ℕ → ℕ → ℕ) (law
   logged_fresh = record { measured = refl; jobs = refl; prices = refl; bars = refl; pending = refl; round = refl; number = refl }
 
   logged_accepted : (log : List Event) (s t : State W J) (c : Call) (a : Answer) → Upright m joins w measure n s → Logged m joins w measure n log s
-      → tariff_refusal s.jobs (places m joins s) ≡ None → Accepts m joins s c a t → Logged m joins w measure n (event c a ∷ log) t
+      → sizes_refusal m s ≡ None → Accepts m joins s c a t → Logged m joins w measure n (event c a ∷ log) t
   logged_accepted log s t c a u l busy (price job place amount e) = record {
     measured = l.measured;
     jobs = l.jobs;

@@ -1,7 +1,7 @@
 -- A new cut among minimal ones: it removes none of them, and one of a row that obeys them is not covered.
 use Rattle.std.proofs.Common.{◌≡◌, ℕ, ◌<◌, ◌⊎◌, List, [], ◌∷◌, ◌++◌, length, sym, refl, ap, subst, ⊎_elim, arith}
-use Rattle.std.specs.List.{AllByRecursion}
-use Rattle.std.proofs.ByRecursion.{All-weaker}
+use Rattle.std.specs.List.{All}
+use Rattle.std.proofs.lemmas.List.Elements.{All-weaker, All-head, All-tail, recursion_from_All}
 use Rattle.jobs.specs.Sets.{bits, Has, Part, without}
 use Rattle.jobs.proofs.Members.{part_lacking, part_or_lacks}
 use Rattle.workshops.specs.Workshops.{Meaning, Lawful}
@@ -28,9 +28,10 @@ fresh_outside row place set t g part d f h = ⊎_elim
     (λ (below : d.place < place). omega (arith, h.place))
     f
 
-pub never_covered : (row : List ℕ) (place set t : ℕ) (cs : List Cut) → Group row place set → Part t set → AllByRecursion (Fresh row place) cs → Covers (cut_of place (set_of t)) cs → ⊥
+pub never_covered : (row : List ℕ) (place set t : ℕ) (cs : List Cut) → Group row place set → Part t set → All (Fresh row place) cs → Covers (cut_of place (set_of t)) cs → ⊥
 never_covered row place set t cs g part fresh =
-    not_covered (cut_of place (set_of t)) cs (All-weaker (Fresh row place) (λ d. Within d (cut_of place (set_of t)) → ⊥) (fresh_outside row place set t g part) cs fresh)
+    not_covered (cut_of place (set_of t)) cs (recursion_from_All (λ d. Within d (cut_of place (set_of t)) → ⊥) cs
+    (All-weaker (Fresh row place) (λ d. Within d (cut_of place (set_of t)) → ⊥) (fresh_outside row place set t g part) cs fresh))
 
 -- the cut was put last, and none went
 pub record PutLast (cs : List Cut) (c : Cut) (a : Addition) (after : List Cut) : Type 0 where
@@ -50,13 +51,13 @@ module _ {W J : Type 0} (m : Meaning W) (joins : J → ℕ → ℕ → ℕ) (law
       (part_or_lacks (bits d.set) (bits c.set))
 
   -- so, if it is not covered, it removes none
-  pub never_removes : (c : Cut) → (m.family w c.place (bits c.set) → ⊥) → (cs left : List Cut) → AllByRecursion (Minimal m joins w measure n) cs → (Covers c cs → ⊥)
+  pub never_removes : (c : Cut) → (m.family w c.place (bits c.set) → ⊥) → (cs left : List Cut) → All (Minimal m joins w measure n) cs → (Covers c cs → ⊥)
       → Leaves c cs left → left ≡ cs
   never_removes c fails cs left min new none = refl
-  never_removes c fails cs left min new (goes d ds es k l) = absurd (new (here d ds (within_back c d fails min.0 k)))
-  never_removes c fails cs left min new (stays d ds es k l) = ap (λ (xs : List Cut). d ∷ xs) (never_removes c fails ds es min.1 (λ x. new (there d ds x)) l)
+  never_removes c fails cs left min new (goes d ds es k l) = absurd (new (here d ds (within_back c d fails (All-head (Minimal m joins w measure n) d ds min) k)))
+  never_removes c fails cs left min new (stays d ds es k l) = ap (λ (xs : List Cut). d ∷ xs) (never_removes c fails ds es (All-tail (Minimal m joins w measure n) d ds min) (λ x. new (there d ds x)) l)
 
-  pub put_last : (c : Cut) → (m.family w c.place (bits c.set) → ⊥) → (cs after : List Cut) (a : Addition) → AllByRecursion (Minimal m joins w measure n) cs → (Covers c cs → ⊥)
+  pub put_last : (c : Cut) → (m.family w c.place (bits c.set) → ⊥) → (cs after : List Cut) (a : Addition) → All (Minimal m joins w measure n) cs → (Covers c cs → ⊥)
       → length cs < room → Adds cs c a after → PutLast cs c a after
   put_last c fails cs after a min new few (covered x) = absurd (new x)
   put_last c fails cs after a min new few (full left x l e) = absurd (omega (arith, ap length (never_removes c fails cs left min new l)))

@@ -5,7 +5,7 @@ use Rattle.planner.specs.Calls.{Call, Answer, Event, event}
 use Rattle.planner.specs.States.{State, fresh}
 use Rattle.planner.specs.Steps.{Step}
 use Rattle.planner.specs.Runs.{Run, made, next}
-use Rattle.planner.specs.Laws.{SaysLast, EndsRightly, Stands, Law, Runs, GoesOn}
+use Rattle.planner.specs.Laws.{SaysLast, EndsRightly, Stands, Law, Runs}
 use Rattle.planner.proofs.Upright.{Upright, upright_fresh, upright_step}
 use Rattle.planner.proofs.Logged.{Logged, logged_fresh, logged_step}
 use Rattle.planner.proofs.Says.{says_step, ends_rightly}
@@ -62,19 +62,3 @@ module _ {W J : Type 0} (m : Meaning W) (joins : J → ℕ → ℕ → ℕ) (law
   -- a run goes on through a call, and the law with it
   pub runs_on : (log : List Event) (s t : State W J) (c : Call) (a : Answer) → Run m joins w measure n log s → Step m joins s c a t → Runs m joins w measure n (event c a ∷ log) t
   runs_on log s t c a run step = let on = next log s t (event c a) run step in (on, law (event c a ∷ log) t on)
-
--- what each call promises: its step, that a run goes on through it, and what is the same where it was refused
-pub called : {W J : Type 0} (m : Meaning W) (joins : J → ℕ → ℕ → ℕ) → Lawful m → {s t : State W J} {c : Call} {a : Answer} {S : Type 0}
-    → Step m joins s c a t → S → record { step : Step m joins s c a t; law : GoesOn m joins s c a t; same : S }
-called m joins laws {s} {t} {c} {a} step same = record {
-  step = step;
-  law = λ w measure n log run. runs_on m joins laws w measure n log s t c a run step;
-  same = same;
-}
-
--- the same of a call under another name
-pub called_as : {W J X : Type 0} (m : Meaning W) (joins : J → ℕ → ℕ → ℕ) → Lawful m → {s t : State W J} {a : Answer} (f : X → Call) {x y : X}
-    → x ≡ y → Step m joins s (f y) a t → record { step : Step m joins s (f x) a t; law : GoesOn m joins s (f x) a t }
-called_as m joins laws {s} {t} {a} f {x} e step =
-    let here : Step m joins s (f x) a t = subst (λ z. Step m joins s (f z) a t) (sym e) step in
-    record { step = here; law = λ w measure n log run. runs_on m joins laws w measure n log s t (f x) a run here }

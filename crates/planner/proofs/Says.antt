@@ -1,20 +1,19 @@
 -- Each answer of a planner is right, given what it keeps true of itself and what its list says.
 use Rattle.std.proofs.Common.{◌≡◌, ℕ, ◌+◌, ◌<◌, ◌≤◌, Bool, List, Some, None, sym, refl, ap, subst, ⊎_elim, arith}
-use Rattle.std.specs.List.{AllByRecursion}
-use Rattle.std.proofs.ByRecursion.{All-weaker}
+use Rattle.std.specs.List.{All}
+use Rattle.std.proofs.lemmas.List.Elements.{All-weaker, recursion_from_All}
 use Rattle.jobs.specs.Sets.{bits}
 use Rattle.jobs.specs.Words.{Same}
 use Rattle.workshops.specs.Workshops.{Meaning, Lawful}
 use Rattle.master.specs.Cuts.{Breaks}
 use Rattle.master.specs.Master.{Candidate, Best, Earlier, NoCandidate}
-use Rattle.master.specs.Refused.{tariff_refusal}
 use Rattle.master.specs.Rows.{Group, Before, costs}
 use Rattle.master.specs.declared.cut.Cut.{Cut}
 use Rattle.judging.specs.declared.outcome.Outcome.{Outcome}
 use Rattle.judging.specs.declared.outcome.Outcome.TheVariants.{Agreed, Cut as Cutting, Stopped as Stopping, Full as Filling}
-use Rattle.planner.specs.Calls.{Call, Price, Bar, Grant, Propose, Judge, Answer, Refused, Done, Proposed, Nothing, Planned, CutOff, StoppedAt, TableFull, Event, Ending}
+use Rattle.planner.specs.Calls.{Call, Judge, Answer, Refused, Done, Proposed, Nothing, Planned, CutOff, StoppedAt, TableFull, Event, Ending}
 use Rattle.planner.specs.States.{State, judged}
-use Rattle.planner.specs.Steps.{places, BestOf, end_of, Accepts, Step}
+use Rattle.planner.specs.Steps.{places, sizes_refusal, BestOf, end_of, Accepts, Step}
 use Rattle.planner.specs.Steps.Accepts.{price, bar, grant, proposal, none, judgement}
 use Rattle.planner.specs.Steps.Step.{refused, accepted}
 use Rattle.planner.specs.Runs.{price_now, barred_now}
@@ -25,17 +24,10 @@ use Rattle.planner.proofs.Upright.{Upright, judged_end}
 use Rattle.planner.proofs.Logged.{Logged}
 
 same_judged : (row other : List ℕ) (cost cost' : ℕ) → Judge row cost ≡ Judge other cost' → row ≡ other
-same_judged row other cost cost' e = ap of e
-  where
-    of : Call → List ℕ
-    of (Price job place amount) = row
-    of (Bar job place b) = row
-    of (Grant amount) = row
-    of Propose = row
-    of (Judge r c) = r
+same_judged row other cost cost' e = cc
 
 planned_something : (row : List ℕ) (cost round : ℕ) → Planned row cost round ≡ Nothing → ⊥
-planned_something row cost round e = let z : ◌≡◌ {A = ℕ} 0 1 = cc in omega arith
+planned_something row cost round e = cc
 
 -- the best costs no more than any other candidate
 best_least : (n m : ℕ) (joined prices : ℕ → ℕ → ℕ) (barred : ℕ → ℕ → Bool) (cuts : List Cut) (row : List ℕ) (cost : ℕ) → Best n m joined prices barred cuts row cost
@@ -50,18 +42,18 @@ best_least n m joined prices barred cuts row cost b other c = ⊎_elim
 
 module _ {W J : Type 0} (m : Meaning W) (joins : J → ℕ → ℕ → ℕ) (laws : Lawful m) (w : W) (measure : J) (n : ℕ) where
   -- what all places can schedule breaks no minimal cut
-  feasible_candidate : (barred : ℕ → ℕ → Bool) (cuts : List Cut) → AllByRecursion (Minimal m joins w measure n) cuts → (row : List ℕ) → Feasible m joins w measure n barred row
+  feasible_candidate : (barred : ℕ → ℕ → Bool) (cuts : List Cut) → All (Minimal m joins w measure n) cuts → (row : List ℕ) → Feasible m joins w measure n barred row
       → Candidate n (m.count w) barred cuts row
   feasible_candidate barred cuts minimal row f = record {
     assigns = f.assigns;
     permitted = f.permitted;
-    obeys = All-weaker (Minimal m joins w measure n) (λ c. Breaks row c → ⊥)
+    obeys = recursion_from_All (λ c. Breaks row c → ⊥) cuts (All-weaker (Minimal m joins w measure n) (λ c. Breaks row c → ⊥)
         (λ c min breaks.
         let whole = group c.place row in
         min.fails (laws.parts w c.place (bits c.set) whole min.place
         (λ job has. (grouped c.place row job).1 (breaks job has))
         (f.scheduled c.place whole min.place (grouped c.place row))))
-        cuts minimal;
+        cuts minimal);
   }
 
   module _ (log : List Event) (s : State W J) (u : Upright m joins w measure n s) (l : Logged m joins w measure n log s) where
@@ -99,7 +91,7 @@ module _ {W J : Type 0} (m : Meaning W) (joins : J → ℕ → ℕ → ℕ) (law
     says_judged row cost (Filling place added) v cuts pend t =
         (t.0, t.1, λ other cost' set e g y. t.2 set (subst (λ (r : List ℕ). Group r place set) (sym (same_judged row other cost cost' e)) g) y)
 
-    says_accepted : (t : State W J) (c : Call) (a : Answer) → tariff_refusal s.jobs (places m joins s) ≡ None → Accepts m joins s c a t → Says m joins w measure n log c a t
+    says_accepted : (t : State W J) (c : Call) (a : Answer) → sizes_refusal m s ≡ None → Accepts m joins s c a t → Says m joins w measure n log c a t
     says_accepted t c a busy (price job place amount e) = tt
     says_accepted t c a busy (bar job place b e) = tt
     says_accepted t c a busy (grant amount v g) = tt

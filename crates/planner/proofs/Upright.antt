@@ -1,6 +1,7 @@
 -- What every planner that was made and then only called keeps true of itself, whatever the calls were.
 use Rattle.std.proofs.Common.{◌≡◌, ℕ, ◌≤◌, Bool, true, false, ◌&&◌, leb, List, length, Some, None, Option, sym, refl, ap, ◌∙◌, subst, arith}
-use Rattle.std.specs.List.{AllByRecursion}
+use Rattle.std.specs.List.{All}
+use Rattle.std.proofs.lemmas.List.Elements.{All-nil}
 use Rattle.std.proofs.lemmas.Bool.{leb-true, and_parts}
 use Rattle.jobs.specs.Sets.{width}
 use Rattle.jobs.specs.declared.refusal.Refusal.TheVariants.{JobsOutOfRange, PlacesOutOfRange}
@@ -12,7 +13,7 @@ use Rattle.judging.specs.Judging.{Ends}
 use Rattle.judging.specs.declared.outcome.Outcome.{Outcome}
 use Rattle.planner.specs.Calls.{Call, Answer}
 use Rattle.planner.specs.States.{State, fresh}
-use Rattle.planner.specs.Steps.{places, BestOf, Accepts, Step}
+use Rattle.planner.specs.Steps.{places, sizes_refusal, BestOf, Accepts, Step}
 use Rattle.planner.specs.Steps.Accepts.{price, bar, grant, proposal, none, judgement}
 use Rattle.planner.specs.Steps.Step.{refused, accepted}
 use Rattle.planner.specs.Laws.{Minimal}
@@ -20,19 +21,13 @@ use Rattle.planner.proofs.Keeping.{Faithful, faithful_same, faithful_granted}
 use Rattle.planner.proofs.Judged.{Ended, ended}
 
 -- nothing is pending, and something is
-no_some : {X : Type 0} (x : X) → None ≡ Some x → ⊥
-no_some x e = let z : ◌≡◌ {A = ℕ} 0 1 = cc in omega arith
+pub no_some : {X : Type 0} (x : X) → None ≡ Some x → ⊥
+no_some x e = cc
 
 pub same_pair : (row other : List ℕ) (cost cost' : ℕ) → ◌≡◌ {A = Option (List ℕ × ℕ)} (Some (row, cost)) (Some (other, cost')) → (row ≡ other) × (cost ≡ cost')
-same_pair row other cost cost' e = (ap (first row) e, ap (second cost) e)
-  where
-    first : List ℕ → Option (List ℕ × ℕ) → List ℕ
-    first d (Some p) = p.0
-    first d None = d
-
-    second : ℕ → Option (List ℕ × ℕ) → ℕ
-    second d (Some p) = p.1
-    second d None = d
+same_pair row other cost cost' e =
+    let pair : ◌≡◌ {A = List ℕ × ℕ} (row, cost) (other, cost') = cc in
+    (ap (λ (p : List ℕ × ℕ). p.0) pair, ap (λ (p : List ℕ × ℕ). p.1) pair)
 
 -- a planner that is not idle has no more jobs than there are
 pub few_jobs : (n places : ℕ) → tariff_refusal n places ≡ None → n ≤ width
@@ -45,16 +40,16 @@ few_jobs n places e = leb-true n width (and_parts (leb 1 n) (leb n width) (fine 
 module _ {W J : Type 0} (m : Meaning W) (joins : J → ℕ → ℕ → ℕ) (w : W) (measure : J) (n : ℕ) where
   pub record Upright (s : State W J) : Type 0 where
     pub faithful : Faithful m w s.workshop
-    pub minimal : AllByRecursion (Minimal m joins w measure n) s.cuts
+    pub minimal : All (Minimal m joins w measure n) s.cuts
     -- what is pending is the best at the prices, bars and cuts held
     pub best : (row : List ℕ) (cost : ℕ) → s.pending ≡ Some (row, cost) → BestOf m joins s row cost
 
 module _ {W J : Type 0} (m : Meaning W) (joins : J → ℕ → ℕ → ℕ) (laws : Lawful m) (w : W) (measure : J) (n : ℕ) where
   pub upright_fresh : m.invariant w → Upright m joins w measure n (fresh w measure n)
-  upright_fresh good = record { faithful = faithful_same m w good; minimal = tt; best = λ row cost e. absurd (no_some (row, cost) e) }
+  upright_fresh good = record { faithful = faithful_same m w good; minimal = All-nil _; best = λ row cost e. absurd (no_some (row, cost) e) }
 
   -- how the judgement of the pending proposal ends
-  pub judged_end : (s : State W J) (row : List ℕ) (cost : ℕ) (o : Outcome) (v : W) (cuts : List Cut) → Upright m joins w measure n s → tariff_refusal s.jobs (places m joins s) ≡ None
+  pub judged_end : (s : State W J) (row : List ℕ) (cost : ℕ) (o : Outcome) (v : W) (cuts : List Cut) → Upright m joins w measure n s → sizes_refusal m s ≡ None
       → s.pending ≡ Some (row, cost) → Ends m s.workshop s.cuts row (places m joins s) o v cuts → Ended m joins w measure n row s.cuts o v cuts
   judged_end s row cost o v cuts u busy pend e =
       let b : BestOf m joins s row cost = u.best row cost pend in
@@ -62,7 +57,7 @@ module _ {W J : Type 0} (m : Meaning W) (joins : J → ℕ → ℕ → ℕ) (law
       ended m joins laws w measure n row short s.workshop s.cuts u.faithful u.minimal b.candidate.obeys o v cuts
       (subst (λ (k : ℕ). Ends m s.workshop s.cuts row k o v cuts) u.faithful.kept.count e)
 
-  upright_accepted : (s t : State W J) (c : Call) (a : Answer) → Upright m joins w measure n s → tariff_refusal s.jobs (places m joins s) ≡ None → Accepts m joins s c a t → Upright m joins w measure n t
+  upright_accepted : (s t : State W J) (c : Call) (a : Answer) → Upright m joins w measure n s → sizes_refusal m s ≡ None → Accepts m joins s c a t → Upright m joins w measure n t
   upright_accepted s t c a u busy (price job place amount e) = record { faithful = u.faithful; minimal = u.minimal; best = λ row cost z. absurd (no_some (row, cost) z) }
   upright_accepted s t c a u busy (bar job place b e) = record { faithful = u.faithful; minimal = u.minimal; best = λ row cost z. absurd (no_some (row, cost) z) }
   upright_accepted s t c a u busy (grant amount v g) =

@@ -8,5 +8,5 @@ use Rattle.planner.specs.declared.issue.Unissued.{Unissued}
 
 -- the length of the plan's sheet, or the refusal with the plan handed back
 abbrev pub issued : Option Refusal → Plan → Result ℕ Unissued
-issued None plan = Ok (length (sheet plan.round plan.cost (row_places plan.row)))
+issued None plan = Ok (length (sheet plan.round plan.priced.cost (row_places plan.priced.row)))
 issued (Some e) plan = Err (record { refusal = e; plan = plan })

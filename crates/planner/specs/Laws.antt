@@ -1,6 +1,6 @@
 -- The law over runs, in the words of assignments, prices and what places can schedule.
 use Rattle.std.specs.Prelude.{◌≡◌, ℕ, ◌+◌, ◌<◌, ◌≤◌, Bool, List, [], ◌∷◌, length}
-use Rattle.std.specs.List.{AllByRecursion}
+use Rattle.std.specs.List.{All}
 use Rattle.jobs.specs.Sets.{bits, Has, without}
 use Rattle.jobs.specs.Words.{Same}
 use Rattle.workshops.specs.Stances.{Stopped}
@@ -70,7 +70,7 @@ module _ {W J : Type 0} (m : Meaning W) (joins : J → ℕ → ℕ → ℕ) (w :
     pub kept : Kept m w s.workshop
     pub sound : m.invariant s.workshop
     -- each held cut is minimal, and their number is that of the cuts reported
-    pub minimal : AllByRecursion Minimal s.cuts
+    pub minimal : All Minimal s.cuts
     pub number : length s.cuts ≡ reported log
     -- the last answer is right
     pub says : SaysLast log s

@@ -2,6 +2,7 @@ pub mod Calls
 pub mod Carried
 pub mod Issues
 pub mod Laws
+pub mod Promises
 pub mod Runs
 pub mod States
 pub mod Steps

@@ -30,31 +30,26 @@ fresh w measure jobs = record {
   round = 0;
 }
 
--- a price is set, and what was pending is dropped
-abbrev pub with_price : {W J : Type 0} → State W J → ℕ → ℕ → ℕ → State W J
-with_price s job place amount = record {
+-- the tables of prices and bars are others, and what was pending is dropped
+abbrev pub repriced : {W J : Type 0} → State W J → (ℕ → ℕ → ℕ) → (ℕ → ℕ → Bool) → State W J
+repriced s price barred = record {
   workshop = s.workshop;
   measure = s.measure;
   jobs = s.jobs;
-  price = replaced s.price job place amount;
-  barred = s.barred;
+  price = price;
+  barred = barred;
   cuts = s.cuts;
   pending = None;
   round = s.round;
 }
 
+-- a price is set, and what was pending is dropped
+abbrev pub with_price : {W J : Type 0} → State W J → ℕ → ℕ → ℕ → State W J
+with_price s job place amount = repriced s (replaced s.price job place amount) s.barred
+
 -- a pair is barred or permitted, and what was pending is dropped
 abbrev pub with_bar : {W J : Type 0} → State W J → ℕ → ℕ → Bool → State W J
-with_bar s job place bar = record {
-  workshop = s.workshop;
-  measure = s.measure;
-  jobs = s.jobs;
-  price = s.price;
-  barred = replaced s.barred job place bar;
-  cuts = s.cuts;
-  pending = None;
-  round = s.round;
-}
+with_bar s job place bar = repriced s s.price (replaced s.barred job place bar)
 
 -- the workshop has moved, and nothing else
 abbrev pub with_workshop : {W J : Type 0} → State W J → W → State W J

@@ -1,5 +1,5 @@
 -- Each call: when it is refused, what it answers, and what it makes of the planner.
-use Rattle.std.specs.Prelude.{◌≡◌, ℕ, ◌+◌, Bool, List, Some, None, ◌≢◌}
+use Rattle.std.specs.Prelude.{◌≡◌, ℕ, ◌+◌, Bool, List, Some, None, Option, ◌≢◌}
 use Rattle.jobs.specs.declared.refusal.Refusal.{Refusal}
 use Rattle.jobs.specs.declared.refusal.Refusal.TheVariants.{RoundsUsedUp, NotPending}
 use Rattle.workshops.specs.Workshops.{Meaning}
@@ -23,6 +23,10 @@ end_of row cost round (Cutting added) = CutOff added
 end_of row cost round (Stopping fault added) = StoppedAt fault round added
 end_of row cost round (Filling place added) = TableFull place added
 
+-- what an idle planner refuses every call with; its places are those of the workshop
+abbrev pub sizes_refusal : {W J : Type 0} → Meaning W → State W J → Option Refusal
+sizes_refusal m s = tariff_refusal s.jobs (m.count s.workshop)
+
 module _ {W J : Type 0} (m : Meaning W) (joins : J → ℕ → ℕ → ℕ) where
   abbrev pub places : State W J → ℕ
   places s = m.count s.workshop
@@ -33,13 +37,13 @@ module _ {W J : Type 0} (m : Meaning W) (joins : J → ℕ → ℕ → ℕ) wher
 
   -- a call is refused: at an idle planner, or for a reason of its own
   pub data Refuses (s : State W J) : Call → Refusal → Type 0 where
-    idle : (c : Call) (e : Refusal) → tariff_refusal s.jobs (places s) ≡ Some e → Refuses s c e
-    price : (job place amount : ℕ) (e : Refusal) → tariff_refusal s.jobs (places s) ≡ None
+    idle : (c : Call) (e : Refusal) → sizes_refusal m s ≡ Some e → Refuses s c e
+    price : (job place amount : ℕ) (e : Refusal) → sizes_refusal m s ≡ None
         → price_refusal s.jobs (places s) job place amount ≡ Some e → Refuses s (Price job place amount) e
-    bar : (job place : ℕ) (b : Bool) (e : Refusal) → tariff_refusal s.jobs (places s) ≡ None
+    bar : (job place : ℕ) (b : Bool) (e : Refusal) → sizes_refusal m s ≡ None
         → pair_refusal s.jobs (places s) job place ≡ Some e → Refuses s (Bar job place b) e
-    rounds : tariff_refusal s.jobs (places s) ≡ None → s.round ≡ last_round → Refuses s Propose RoundsUsedUp
-    judge : (row : List ℕ) (cost : ℕ) → tariff_refusal s.jobs (places s) ≡ None
+    rounds : sizes_refusal m s ≡ None → s.round ≡ last_round → Refuses s Propose RoundsUsedUp
+    judge : (row : List ℕ) (cost : ℕ) → sizes_refusal m s ≡ None
         → (s.pending ≢ Some (row, cost)) → Refuses s (Judge row cost) NotPending
 
   -- a call is accepted: its answer, and the planner then
@@ -60,4 +64,4 @@ module _ {W J : Type 0} (m : Meaning W) (joins : J → ℕ → ℕ → ℕ) wher
   -- a call at s, its answer, and the planner t that it leaves
   pub data Step (s : State W J) (c : Call) : Answer → State W J → Type 0 where
     refused : (e : Refusal) → Refuses s c e → Step s c (Refused e) s
-    accepted : (a : Answer) (t : State W J) → tariff_refusal s.jobs (places s) ≡ None → Accepts s c a t → Step s c a t
+    accepted : (a : Answer) (t : State W J) → sizes_refusal m s ≡ None → Accepts s c a t → Step s c a t

@@ -5,8 +5,7 @@ use Rattle.master.specs.Rows.{row_places}
 use Rattle.master.specs.Tables.{held}
 use Rattle.master.specs.Tariffs.{price_of, barred_in}
 use Rattle.master.specs.declared.priced.Priced.{Priced}
-use Rattle.planner.specs.declared.answers.Proposing.{Proposing}
-use Rattle.planner.specs.declared.answers.Proposing.TheVariants.{Found, Nothing as NoProposal}
+use Rattle.planner.specs.declared.answers.Proposal.{Proposal}
 use Rattle.planner.specs.declared.answers.Judgement.{Judgement}
 use Rattle.planner.specs.declared.answers.Judgement.TheVariants.{Plan as APlan, Cut, Stop, Full}
 use Rattle.planner.specs.declared.planner.Planner.{Planner}
@@ -36,19 +35,14 @@ done (Ok x) = Done
 done (Err e) = Refused e
 
 -- the answer of propose
-abbrev pub proposing : Result Proposing Refusal → Answer
-proposing (Ok (Found p)) = Proposed (row_places p.row) p.cost
-proposing (Ok NoProposal) = Nothing
+abbrev pub proposing : Result (Option Proposal) Refusal → Answer
+proposing (Ok (Some p)) = Proposed (row_places p.priced.row) p.priced.cost
+proposing (Ok None) = Nothing
 proposing (Err e) = Refused e
-
--- the answer of propose when this row with its cost was found, or nothing
-abbrev pub proposal_of : Option (List ℕ × ℕ) → Answer
-proposal_of None = Nothing
-proposal_of (Some x) = Proposed x.0 x.1
 
 -- the answer of judge
 abbrev pub judging : Result Judgement Refusal → Answer
-judging (Ok (APlan p)) = Planned (row_places p.row) p.cost p.round
+judging (Ok (APlan p)) = Planned (row_places p.priced.row) p.priced.cost p.round
 judging (Ok (Cut added)) = CutOff added
 judging (Ok (Stop fault round added)) = StoppedAt fault round added
 judging (Ok (Full place added)) = TableFull place added

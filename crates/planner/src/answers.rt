@@ -2,29 +2,21 @@
 // so both are moved and never copied.
 ghost use Rattle.std.specs.Prelude.{◌≡◌};
 
+use master::priced::Priced;
 use master::row::Row;
 use workshops::reply::Fault;
 
 // An assignment with its cost, for a judgement.
 #[derive(Drop)]
 pub struct Proposal {
-    pub(crate) row: Row,
-    pub(crate) cost: u32,
+    pub(crate) priced: Priced,
 }
 
 // An assignment that every place can schedule, with its cost and the round of its judgement.
 #[derive(Drop)]
 pub struct Plan {
-    pub(crate) row: Row,
-    pub(crate) cost: u32,
+    pub(crate) priced: Priced,
     pub(crate) round: u16,
-}
-
-#[derive(Drop)]
-pub enum Proposing {
-    Found(Proposal),
-    // No permitted assignment obeys the cuts.
-    Nothing,
 }
 
 #[derive(Drop)]
@@ -50,14 +42,14 @@ pub enum Judgement {
 impl Proposal {
     // The place of each job.
     pub fn row(&self) -> Row
-        ensures { result ≡ self.now.row }
+        ensures { result ≡ self.now.priced.row }
     {
-        self.row
+        self.priced.row
     }
 
     pub fn cost(&self) -> u32
-        ensures { result ≡ self.now.cost }
+        ensures { result ≡ self.now.priced.cost }
     {
-        self.cost
+        self.priced.cost
     }
 }

@@ -19,11 +19,9 @@ pub struct Unissued {
 // and the plan is handed back.
 pub fn issue(plan: Plan, buffer: &mut [u8]) -> Result<usize, Unissued>
     ensures answer { result ≡ issued (room_refusal (length buffer.old)) plan }
-    ensures bytes { buffer.new ≡ filled (room_refusal (length buffer.old)) (sheet plan.round plan.cost (row_places plan.row)) buffer.old }
+    ensures bytes { buffer.new ≡ filled (room_refusal (length buffer.old)) (sheet plan.round plan.priced.cost (row_places plan.priced.row)) buffer.old }
     ensures apart { ToldApart }
 {
-    match write(plan.round, plan.cost, &plan.row, buffer) {
-        Ok(length) => Ok(length),
-        Err(refusal) => Err(Unissued { refusal, plan }),
-    }
+    let written = write(plan.round, plan.priced.cost, &plan.priced.row, buffer);
+    written.map_err(|refusal| Unissued { refusal, plan })
 }

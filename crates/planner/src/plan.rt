@@ -1,4 +1,4 @@
-// What is read of a plan.
+// What is read of a plan: published calls of its own, beside those of a proposal.
 ghost use Rattle.std.specs.Prelude.{◌≡◌};
 
 use crate::answers::Plan;
@@ -7,15 +7,15 @@ use master::row::Row;
 impl Plan {
     // The place of each job.
     pub fn row(&self) -> Row
-        ensures { result ≡ self.now.row }
+        ensures { result ≡ self.now.priced.row }
     {
-        self.row
+        self.priced.row
     }
 
     pub fn cost(&self) -> u32
-        ensures { result ≡ self.now.cost }
+        ensures { result ≡ self.now.priced.cost }
     {
-        self.cost
+        self.priced.cost
     }
 
     // The round in which it was judged.

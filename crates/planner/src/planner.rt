@@ -9,7 +9,7 @@ pub mod calls;
 pub mod judge;
 
 // The round number after which no proposal is made.
-pub const LAST_ROUND: u16 = 65535;
+pub const LAST_ROUND: u16 = u16::MAX;
 
 #[derive(Drop)]
 pub struct Planner<W, J> {

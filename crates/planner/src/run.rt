@@ -1,13 +1,12 @@
 // A whole list of calls, carried out one after the other.
-ghost use Rattle.planner.specs.Laws.{GoesOn};
-ghost use Rattle.planner.specs.Steps.{Step};
 ghost use Rattle.planner.specs.Carried.{CarriesOut, told, call_of};
-ghost use Rattle.planner.specs.Views.{state};
+ghost use Rattle.planner.specs.Promises.{Serves};
 
-use crate::answers::{Judgement, Proposal, Proposing};
+use crate::answers::{Judgement, Proposal};
 use crate::planner::Planner;
 use jobs::refusal::Refusal;
 use master::measure::Measure;
+use master::priced::Priced;
 use master::row::Row;
 use workshops::workshop::Workshop;
 
@@ -25,22 +24,23 @@ pub enum Call {
 #[derive(Drop)]
 pub enum Answer {
     Done(Result<(), Refusal>),
-    Proposing(Result<Proposing, Refusal>),
+    Proposing(Result<Option<Proposal>, Refusal>),
     Judging(Result<Judgement, Refusal>),
 }
 
 impl<W: Workshop, J: Measure> Planner<W, J> {
-    // Carries out one call.
+    // Carries out one call. Calls are values, since the law over runs is about lists of them.
     pub fn call(&mut self, call: Call) -> Answer
-        ensures step { Step W.Workshop.meaning J.Measure.joins (state self.old) (call_of call) (told result) (state self.new) }
-        ensures law { GoesOn W.Workshop.meaning J.Measure.joins (state self.old) (call_of call) (told result) (state self.new) }
+        ensures { Serves W.Workshop.meaning J.Measure.joins self.old (call_of call) (told result) self.new }
     {
         match call {
             Call::Price { job, place, amount } => Answer::Done(self.price(job, place, amount)),
             Call::Bar { job, place, barred } => Answer::Done(self.bar(job, place, barred)),
             Call::Grant { amount } => Answer::Done(self.grant(amount)),
             Call::Propose => Answer::Proposing(self.propose()),
-            Call::Judge { row, cost } => Answer::Judging(self.judge(Proposal { row, cost })),
+            Call::Judge { row, cost } => Answer::Judging(self.judge(Proposal {
+                priced: Priced { row, cost },
+            })),
         }
     }
 }

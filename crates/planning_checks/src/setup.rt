@@ -1,25 +1,8 @@
-// The bench and the stand of the worked run, and its calls.
-use facilities::bench::Bench;
-use facilities::stand::Stand;
+// The calls of the worked run.
 use jobs::refusal::Refusal;
 use master::row::Row;
 use planner::run::Call;
-
-pub fn bench() -> Result<Bench, Refusal> {
-    let mut bench = Bench::new();
-    bench.row(0, 0, 3, 5)?;
-    bench.row(1, 0, 3, 5)?;
-    bench.row(2, 10, 1, 12)?;
-    Ok(bench)
-}
-
-pub fn stand() -> Result<Stand, Refusal> {
-    let mut stand = Stand::new(4);
-    stand.row(0, 0, 3, 5, 2)?;
-    stand.row(1, 0, 3, 5, 2)?;
-    stand.row(2, 10, 1, 12, 1)?;
-    Ok(stand)
-}
+use worked_run::PRICES;
 
 pub fn price(job: u32, place: u32, amount: u32) -> Call {
     Call::Price { job, place, amount }
@@ -31,13 +14,14 @@ pub fn judge(places: &[u8], cost: u32) -> Result<Call, Refusal> {
 }
 
 pub fn calls(granted: u16) -> Result<[Call; 11], Refusal> {
+    let [a, b, c, d, e, f] = PRICES.map(|(job, place, amount)| price(job, place, amount));
     Ok([
-        price(0, 0, 100),
-        price(0, 1, 150),
-        price(1, 0, 100),
-        price(1, 1, 120),
-        price(2, 0, 50),
-        price(2, 1, 80),
+        a,
+        b,
+        c,
+        d,
+        e,
+        f,
         Call::Grant { amount: granted },
         Call::Propose,
         judge(&[0, 0, 0], 250)?,

@@ -1,19 +1,20 @@
 // Proposals that are moved to their judgement, the cuts they leave, and a table of cuts on its own.
-use crate::setup::{bench, calls, stand};
+use crate::setup::calls;
 use jobs::set::JobSet;
 use master::cut::Addition;
 use master::measure::Sum;
 use master::row::Row;
 use master::table::CutTable;
-use planner::answers::{Judgement, Proposing};
+use planner::answers::Judgement;
 use planner::pile::run_on_pile;
 use std::test::Fail;
+use worked_run::{bench, stand};
 
 #[test]
 fn proposed_cut_and_proposed_again(rt: HostRuntime) -> Result<(), Fail> {
     let calls = calls(6)?;
     let mut planner = run_on_pile(3, Sum {}, bench()?, stand()?, &calls[0..7]).planner;
-    let Proposing::Found(first) = planner.propose()? else {
+    let Some(first) = planner.propose()? else {
         return Err(Fail::new("no proposal"));
     };
     assert!(rt; first.cost() == 250 && first.row().same(&Row::new(&[0, 0, 0])?));
@@ -26,7 +27,7 @@ fn proposed_cut_and_proposed_again(rt: HostRuntime) -> Result<(), Fail> {
     };
     assert!(rt; place == 0 && set.contains(0) && set.contains(1) && set.len() == 2);
     assert!(rt; planner.cut(1).is_none());
-    let Proposing::Found(second) = planner.propose()? else {
+    let Some(second) = planner.propose()? else {
         return Err(Fail::new("no second proposal"));
     };
     let Judgement::Plan(plan) = planner.judge(second)? else {

@@ -1,5 +1,5 @@
 // The worked run to its end, and where it stops with one answer less.
-use crate::setup::{bench, calls, judge, price, stand};
+use crate::setup::{calls, judge, price};
 use jobs::refusal::Refusal;
 use master::measure::Sum;
 use planner::answers::Judgement;
@@ -7,23 +7,25 @@ use planner::issue::issue;
 use planner::pile::run_on_pile;
 use planner::run::{Answer, Call};
 use std::test::Fail;
+use worked_run::{bench, stand};
 
-// How a call ended: the number of its refusal, or 100 where it was accepted.
-fn number_of<T: Drop>(res: Result<T, Refusal>) -> u8 {
-    match res {
-        Ok(_) => 100,
-        Err(refusal) => refusal.number(),
+// The number of the refusal, if there is one.
+fn number_of<T: Drop>(answer: Result<T, Refusal>) -> Option<u8> {
+    match answer {
+        Ok(_) => None,
+        Err(refusal) => Some(refusal.number()),
     }
 }
 
-fn ending(last: Option<Answer>) -> u8 {
+// How the last call was refused, if it was.
+fn ending(last: Option<Answer>) -> Result<Option<u8>, Fail> {
     let Some(answer) = last else {
-        return 101;
+        return Err(Fail::new("no call"));
     };
     match answer {
-        Answer::Done(result) => number_of(result),
-        Answer::Proposing(result) => number_of(result),
-        Answer::Judging(result) => number_of(result),
+        Answer::Done(answer) => Ok(number_of(answer)),
+        Answer::Proposing(answer) => Ok(number_of(answer)),
+        Answer::Judging(answer) => Ok(number_of(answer)),
     }
 }
 
@@ -84,19 +86,19 @@ fn five_answers_stop_it(rt: HostRuntime) -> Result<(), Fail> {
 fn refusals_by_number(rt: HostRuntime) -> Result<(), Fail> {
     let propose = Call::Propose;
     let cases = [
-        (0, propose, 1),
-        (17, propose, 1),
-        (16, propose, 100),
-        (3, price(3, 0, 0), 4),
-        (3, price(0, 2, 0), 5),
-        (3, price(0, 0, 1_000_000), 100),
-        (3, price(0, 0, 1_000_001), 7),
-        (3, price(3, 2, 1_000_001), 4),
-        (3, judge(&[0, 0, 0], 0)?, 9),
+        (0, propose, Some(1)),
+        (17, propose, Some(1)),
+        (16, propose, None),
+        (3, price(3, 0, 0), Some(4)),
+        (3, price(0, 2, 0), Some(5)),
+        (3, price(0, 0, 1_000_000), None),
+        (3, price(0, 0, 1_000_001), Some(7)),
+        (3, price(3, 2, 1_000_001), Some(4)),
+        (3, judge(&[0, 0, 0], 0)?, Some(9)),
     ];
     for (jobs, call, number) in cases {
         let ran = run_on_pile(jobs, Sum {}, bench()?, stand()?, &[call]);
-        assert_eq!(rt; ending(ran.last), number);
+        assert_eq!(rt; ending(ran.last)?, number);
     }
     Ok(())
 }
@@ -109,15 +111,15 @@ fn a_proposal_is_judged_once_and_while_it_is_pending(rt: HostRuntime) -> Result<
     let fewer = judge(&[0, 0], 0)?;
     let grant = Call::Grant { amount: 9 };
     let cases = [
-        ([ask, grant, all], 100),
-        ([ask, grant, other], 9),
-        ([ask, grant, fewer], 9),
-        ([ask, price(0, 0, 5), all], 9),
-        ([ask, all, all], 9),
+        ([ask, grant, all], None),
+        ([ask, grant, other], Some(9)),
+        ([ask, grant, fewer], Some(9)),
+        ([ask, price(0, 0, 5), all], Some(9)),
+        ([ask, all, all], Some(9)),
     ];
     for (calls, number) in cases {
         let ran = run_on_pile(3, Sum {}, bench()?, stand()?, &calls);
-        assert_eq!(rt; ending(ran.last), number);
+        assert_eq!(rt; ending(ran.last)?, number);
     }
     Ok(())
 }

@@ -1,9 +1,9 @@
 // Random tariffs and cuts, for as many jobs and places as there can be.
-use crate::random::Random;
 use jobs::refusal::Refusal;
 use jobs::set::{JOBS, JobSet};
 use master::table::CutTable;
 use master::tariff::Tariff;
+use xorshift::Random;
 
 const PLACES: u32 = master::PLACES as u32;
 

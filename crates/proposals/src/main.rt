@@ -3,15 +3,17 @@
 #![tactic(auto)]
 
 mod cases;
-mod random;
 mod show;
 
+use anyhow::{Context, Result};
 use cases::{random_cuts, random_tariff};
 use master::cheapest::cheapest;
 use master::measure::Sum;
-use random::Random;
-use show::{Failure, Shown};
+use show::Shown;
 use std::env;
+use xorshift::Random;
+
+const SEED: u32 = 2_463_534_242;
 
 // The numbers that the program is given.
 #[derive(Clone, Copy)]
@@ -20,24 +22,24 @@ struct Wanted {
     cases: usize,
 }
 
-fn read_wanted(rt: &HostRuntime) -> Result<Wanted, Failure> {
+// One argument as a number.
+fn parsed(word: Option<String>) -> Result<usize> {
+    let word = word.context("the arguments are how many cuts and how many cases")?;
+    Ok(word.parse::<usize>()?)
+}
+
+fn read_wanted(rt: &HostRuntime) -> Result<Wanted> {
     let mut words = env::args(rt)?;
     let _ = words.next();
-    let Some(cuts) = words.next() else {
-        return Err(Failure::Usage);
-    };
-    let Some(cases) = words.next() else {
-        return Err(Failure::Usage);
-    };
     Ok(Wanted {
-        cuts: cuts.parse::<usize>()?,
-        cases: cases.parse::<usize>()?,
+        cuts: parsed(words.next())?,
+        cases: parsed(words.next())?,
     })
 }
 
-fn main(rt: HostRuntime) -> Result<(), Failure> {
+fn main(rt: HostRuntime) -> Result<()> {
     let wanted = read_wanted(&rt)?;
-    let mut random = Random::new();
+    let mut random = Random::new(SEED);
     for number in 0..wanted.cases {
         let tariff = random_tariff(&mut random)?;
         let cuts = random_cuts(&mut random, wanted.cuts)?;

@@ -1,4 +1,3 @@
 pub mod Apart
 pub mod Lining
 pub mod Numbers
-pub mod Putting

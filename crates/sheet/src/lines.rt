@@ -1,53 +1,45 @@
-// The lines of a sheet, each put into the buffer at a position; the answer is the position after it.
-ghost use Rattle.std.specs.Prelude.{ℕ, ◌+◌, ◌≤◌, [], length};
-ghost use Rattle.master.specs.Rows.{row_places};
-ghost use Rattle.sheet.specs.Puts.{Room, Puts, lines_room};
-ghost use Rattle.sheet.specs.Sheets.{title, placing, head, line, lines, no_tail};
+// The lines of a sheet, each appended to what stands so far.
+ghost use Rattle.std.specs.Prelude.{◌≡◌, ℕ, ◌+◌, ◌≤◌, ◌++◌, length};
+ghost use Rattle.arrayvec.specs.ArrayString.{array_string_len};
+ghost use Rattle.jobs.specs.Sets.{width};
+ghost use Rattle.sheet.specs.Sheets.{numeral, pair, feed, lines, no_tail, sheet_room};
 
-use crate::parts::{put_feed, put_pair};
-use master::row::Row;
+use crate::SHEET_ROOM;
+use arrayvec::ArrayString;
+use itoa::Buffer;
 
-fn put_title(buffer: &mut [u8], round: u16, cost: u32) -> usize
-    requires { Room buffer.old 0 (title round cost) }
-    ensures { Puts buffer.old 0 (title round cost) buffer.new result }
+// A number in decimal.
+#[tactic(auto, using(crate::proofs::Numbers::numeral_decimal))]
+fn put_number(sheet: &mut ArrayString<SHEET_ROOM>, n: u32)
+    requires { array_string_len sheet.old + length (numeral n) ≤ sheet_room }
+    ensures bytes { sheet.new.bytes ≡ sheet.old.bytes ++ numeral n }
+    ensures len { array_string_len sheet.new ≡ array_string_len sheet.old + length (numeral n) }
 {
-    put_pair(buffer, 0, b"plan round ", round as u32, b" cost ", cost)
+    let mut digits = Buffer::new();
+    sheet.push_str(digits.format(n));
 }
 
-pub(crate) fn put_head(buffer: &mut [u8], round: u16, cost: u32) -> usize
-    requires { Room buffer.old 0 (head round cost) }
-    ensures { Puts buffer.old 0 (head round cost) buffer.new result }
+// A line of two words, each with its number.
+#[tactic(auto, using(crate::proofs::Lining::length_words, crate::proofs::Lining::words_joined))]
+pub(crate) fn put_line(sheet: &mut ArrayString<SHEET_ROOM>, word: &str, n: u32, other: &str, m: u32)
+    requires { array_string_len sheet.old + length (pair word.now n other.now m ++ feed) ≤ sheet_room }
+    ensures { sheet.new.bytes ≡ sheet.old.bytes ++ (pair word.now n other.now m ++ feed) }
 {
-    let end = put_title(buffer, round, cost);
-    put_feed(buffer, end)
+    sheet.push_str(word);
+    put_number(sheet, n);
+    sheet.push_str(other);
+    put_number(sheet, m);
+    sheet.push_str("\n");
 }
 
-fn put_placing(buffer: &mut [u8], at: usize, job: u32, place: u8) -> usize
-    requires { Room buffer.old at (placing job place) }
-    ensures { Puts buffer.old at (placing job place) buffer.new result }
+// A line for each job, from job 0 on.
+#[tactic(auto, using(crate::proofs::Lining::lines_more, crate::proofs::Lining::line_fits))]
+pub(crate) fn put_lines(sheet: &mut ArrayString<SHEET_ROOM>, places: &[u8])
+    requires few { length places.now ≤ width }
+    requires room { array_string_len sheet.old + length (lines no_tail 0 places.now) ≤ sheet_room }
+    ensures { sheet.new.bytes ≡ sheet.old.bytes ++ lines no_tail 0 places.now }
 {
-    put_pair(buffer, at, b"job ", job, b" place ", place as u32)
-}
-
-fn put_line(buffer: &mut [u8], at: usize, job: u32, place: u8) -> usize
-    requires { Room buffer.old at (line job place []) }
-    ensures { Puts buffer.old at (line job place []) buffer.new result }
-{
-    let end = put_placing(buffer, at, job, place);
-    put_feed(buffer, end)
-}
-
-// A line for each job of the row.
-pub(crate) fn put_lines(buffer: &mut [u8], at: usize, row: &Row) -> usize
-    requires { at + lines_room ≤ length buffer.old }
-    ensures bytes { Puts buffer.old at (lines no_tail 0 (row_places row.now)) buffer.new result }
-    ensures short { result ≤ at + lines_room }
-{
-    let mut end = at;
-    let mut job = 0;
-    while let Some(place) = row.place(job) {
-        end = put_line(buffer, end, job, place);
-        job += 1;
+    for (job, &place) in places.iter().enumerate() {
+        put_line(sheet, "job ", job as u32, " place ", u32::from(place));
     }
-    end
 }

@@ -1,9 +1,9 @@
 // A list of questions put to a workshop with a number of answers granted.
-use crate::setup::sets;
-use crate::show::{Failure, Named};
+use crate::sets::sets;
+use crate::show::Named;
+use anyhow::Result;
 use jobs::refusal::Refusal;
 use jobs::set::JobSet;
-use workshops::reply::Reply;
 use workshops::workshop::Workshop;
 
 #[derive(Clone, Copy)]
@@ -33,16 +33,16 @@ pub(crate) fn questions<W: Workshop + Drop>(
     rt: &HostRuntime,
     amount: u16,
     workshop: W,
-) -> Result<(), Failure> {
+) -> Result<()> {
     let mut workshop = workshop;
     workshop.grant(amount);
     for question in asked()? {
         let place = question.place;
         let jobs = Named(question.set);
         match workshop.verdict(place, question.set)? {
-            Reply::Yes => println!(rt; "grant {amount}, place {place}: {jobs} - yes")?,
-            Reply::No => println!(rt; "grant {amount}, place {place}: {jobs} - no")?,
-            Reply::Stop(fault) => {
+            Ok(true) => println!(rt; "grant {amount}, place {place}: {jobs} - yes")?,
+            Ok(false) => println!(rt; "grant {amount}, place {place}: {jobs} - no")?,
+            Err(fault) => {
                 let cause = fault.cause;
                 let depth = fault.depth;
                 println!(rt;

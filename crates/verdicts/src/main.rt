@@ -2,15 +2,16 @@
 #![tactic(auto)]
 
 mod ask;
-mod setup;
+mod sets;
 mod show;
 
+use anyhow::Result;
 use ask::questions;
-use setup::{bench, stand};
-use show::{Failure, refused_row, verdicts};
+use show::{refused_row, verdicts};
+use worked_run::{bench, stand};
 use workshops::pile::pile_up;
 
-fn main(rt: HostRuntime) -> Result<(), Failure> {
+fn main(rt: HostRuntime) -> Result<()> {
     verdicts(&rt, "bench", 0, &bench()?)?;
     verdicts(&rt, "stand", 1, &stand()?)?;
     refused_row(&rt)?;

@@ -1,29 +1,11 @@
 // Sets, verdicts and refusals in words.
-use crate::setup::{bench, sets};
+use crate::sets::sets;
+use anyhow::Result;
 use facilities::facility::Facility;
 use facilities::shrink::smallest_failing;
-use jobs::refusal::Refusal;
 use jobs::set::JobSet;
-use std::{fmt, io};
-
-// Why the program ended early.
-#[derive(Debug, Drop)]
-pub enum Failure {
-    Refused(Refusal),
-    Output(io::Error),
-}
-
-impl From<Refusal> for Failure {
-    fn from(refusal: Refusal) -> Failure {
-        Failure::Refused(refusal)
-    }
-}
-
-impl From<io::Error> for Failure {
-    fn from(error: io::Error) -> Failure {
-        Failure::Output(error)
-    }
-}
+use std::fmt;
+use worked_run::bench;
 
 // A set of jobs, to print.
 #[derive(Drop)]
@@ -33,13 +15,11 @@ impl fmt::Display for Named {
     fn fmt<W: fmt::Write>(&self, f: &mut fmt::Formatter<W>) -> fmt::Result {
         let jobs = self.0.jobs();
         f.write_str("jobs")?;
-        if jobs.len() == 0 {
+        if jobs.is_empty() {
             f.write_str(" none")?;
         }
-        for place in 0..jobs.len() {
-            if let Some(job) = jobs.get(place) {
-                write!(f, " {job}")?;
-            }
+        for job in &jobs {
+            write!(f, " {job}")?;
         }
         Ok(())
     }
@@ -51,7 +31,7 @@ pub(crate) fn verdicts<F: Facility>(
     name: &str,
     place: u8,
     facility: &F,
-) -> Result<(), Failure> {
+) -> Result<()> {
     for set in sets()? {
         let jobs = Named(set);
         match smallest_failing(facility, set) {
@@ -66,13 +46,11 @@ pub(crate) fn verdicts<F: Facility>(
 }
 
 // A row that no bench takes.
-pub(crate) fn refused_row(rt: &HostRuntime) -> Result<(), Failure> {
+pub(crate) fn refused_row(rt: &HostRuntime) -> Result<()> {
     let mut bench = bench()?;
     if let Err(refusal) = bench.row(3, 6, 3, 8) {
-        let number = refusal.number();
-        let words = refusal.words();
         println!(rt;
-            "bench (place 0): job 3 from hour 6, for 3 hours, by hour 8 - refused {number}: {words}"
+            "bench (place 0): job 3 from hour 6, for 3 hours, by hour 8 - refused {refusal}"
         )?;
     }
     Ok(())

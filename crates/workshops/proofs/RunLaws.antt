@@ -6,8 +6,6 @@ use Rattle.jobs.specs.Words.{Same}
 use Rattle.jobs.specs.declared.refusal.Refusal.{Refusal}
 use Rattle.jobs.specs.declared.set.JobSet.{JobSet}
 use Rattle.workshops.specs.declared.reply.Fault.{Fault}
-use Rattle.workshops.specs.declared.reply.Reply.{Reply}
-use Rattle.workshops.specs.declared.reply.Reply.TheVariants.{Stop}
 use Rattle.workshops.specs.Replies.{True, given_by}
 use Rattle.workshops.specs.Runs.{Event, asked, granted, Runs, AllTold, Steady}
 use Rattle.workshops.specs.Stances.{Stopped}
@@ -15,15 +13,12 @@ use Rattle.workshops.specs.Verdicts.{Verdict}
 use Rattle.workshops.specs.Workshops.{Meaning, Kept, Lawful}
 use Rattle.workshops.specs.KeptFacts.{kept_same, kept_trans}
 
-never_refused : {x : Reply} {e : Refusal} → ◌≡◌ {A = Result Reply Refusal} (Ok x) (Err e) → ⊥
-never_refused h = let z : ◌≡◌ {A = ℕ} 0 1 = cc in omega arith
-
 true_back : (a : Option Bool) {F G : Type 0} → Same F G → True a G → True a F
 true_back (Some true) e t = e.1 t
 true_back (Some false) e t = λ f. t (e.0 f)
 true_back None e t = tt
 
-refused_true : (r : Result Reply Refusal) {e : Refusal} (F : Type 0) → r ≡ Err e → True (given_by r) F
+refused_true : (r : Result (Result Bool Fault) Refusal) {e : Refusal} (F : Type 0) → r ≡ Err e → True (given_by r) F
 refused_true r F h = subst (λ x. True (given_by x) F) (sym h) tt
 
 pub runs_append : {W : Type 0} (m : Meaning W) (es fs : List Event) (w u v : W) → Runs m es w u → Runs m fs u v → Runs m (es ++ fs) w v
@@ -33,19 +28,19 @@ runs_append m (granted n ∷ es) fs w u v g h = (g.0, g.1, runs_append m es fs g
 
 module _ {W : Type 0} (m : Meaning W) (law : Lawful m) where
   -- a question keeps count and families, at any place
-  pub verdict_kept : (w v : W) (p : ℕ) (set : JobSet) (r : Result Reply Refusal) → Verdict m w p set r v → Kept m w v
+  pub verdict_kept : (w v : W) (p : ℕ) (set : JobSet) (r : Result (Result Bool Fault) Refusal) → Verdict m w p set r v → Kept m w v
   verdict_kept w v p set r h =
       ⊎_elim (λ l. law.asked w v p (bits set) (given_by r) l (h.asks l)) (λ g. kept_same m w v (h.refuses g).1) (cases_lt p (m.count w))
 
   -- and the invariant
-  pub verdict_sound : (w v : W) (p : ℕ) (set : JobSet) (r : Result Reply Refusal) → Verdict m w p set r v → m.invariant w → m.invariant v
+  pub verdict_sound : (w v : W) (p : ℕ) (set : JobSet) (r : Result (Result Bool Fault) Refusal) → Verdict m w p set r v → m.invariant w → m.invariant v
   verdict_sound w v p set r h i = ⊎_elim
       (λ l. law.sound w v p (bits set) (given_by r) l (h.asks l) (h.truth i l) i)
       (λ g. subst m.invariant (sym (h.refuses g).1) i)
       (cases_lt p (m.count w))
 
   -- and its answer is true of any workshop with the same count and families
-  pub verdict_told : (base w v : W) (p : ℕ) (set : JobSet) (r : Result Reply Refusal) → Kept m base w → Verdict m w p set r v → m.invariant w → True (given_by r) (m.family base p (bits set))
+  pub verdict_told : (base w v : W) (p : ℕ) (set : JobSet) (r : Result (Result Bool Fault) Refusal) → Kept m base w → Verdict m w p set r v → m.invariant w → True (given_by r) (m.family base p (bits set))
   verdict_told base w v p set r k h i = ⊎_elim
       (λ l. true_back (given_by r) (k.family p (bits set) (subst (λ n. p < n) k.count l)) (h.truth i l))
       (λ g. refused_true r (m.family base p (bits set)) (h.refuses g).0)
@@ -70,11 +65,11 @@ module _ {W : Type 0} (m : Meaning W) (law : Lawful m) where
   runs_told (granted n ∷ es) base w v k h i =
       runs_told es base h.0 v (kept_trans m base w h.0 k (law.granted w h.0 n h.1.grants)) h.2 (law.carried w h.0 n h.1.grants i)
 
-  pub stops_again : (w v : W) (p : ℕ) (set : JobSet) (f : Fault) → Verdict m w p set (Ok (Stop f)) v → (p < m.count v) × (m.stance v p (bits set) ≡ Stopped f.cause f.depth)
+  pub stops_again : (w v : W) (p : ℕ) (set : JobSet) (f : Fault) → Verdict m w p set (Ok (Err f)) v → (p < m.count v) × (m.stance v p (bits set) ≡ Stopped f.cause f.depth)
   stops_again w v p set f h = ⊎_elim
       (λ l. let e = (law.asked w v p (bits set) None l (h.asks l)).count in
       (subst (λ n. p < n) (sym e) l, law.stopped w v p (bits set) l (h.asks l) p (bits set) l ∙ (h.answers l).0))
-      (λ g. absurd (never_refused (h.refuses g).0))
+      (λ g. let no = (h.refuses g).0 in grind arith)
       (cases_lt p (m.count w))
 
   pub all_steady : Steady m

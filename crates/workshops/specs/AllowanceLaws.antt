@@ -6,7 +6,7 @@ use Rattle.workshops.specs.Replies.{True}
 use Rattle.workshops.specs.Workshops.{Meaning, Kept, Unmoved, Lawful}
 use Rattle.workshops.specs.Allowances.{topped_up, paid, Charged, allowance}
 use Rattle.workshops.specs.declared.allowance.Allowance.{Allowance}
-use Rattle.workshops.specs.ReplyFacts.{deeper_ready, deeper_bytes}
+use Rattle.workshops.specs.StanceFacts.{deeper_ready, deeper_bytes}
 use Rattle.workshops.specs.KeptFacts.{kept_same, unmoved_same}
 
 module _ {W : Type 0} (m : Meaning W) (law : Lawful m) where
@@ -17,11 +17,15 @@ module _ {W : Type 0} (m : Meaning W) (law : Lawful m) where
   bytes_at zero st f c d h = let ec : 1 ≡ c = cc in let ed : 0 ≡ d = cc in (omega arith, omega arith)
   bytes_at (suc n) st f c d h = deeper_bytes st f c d h
 
+  -- with something left the question was asked below
+  below_at : (n : ℕ) (a : Option Bool) (w v : Allowance W) (p s : ℕ) → Charged (suc n) a (m.asks w.below p s a) p w v → m.asks w.below p s a v.below
+  below_at n (Some y) w v p s h = h.0
+  below_at n None w v p s h = h.0
+
   asked_at : (left : ℕ) (a : Option Bool) (w v : Allowance W) (p s : ℕ) → p < m.count w.below
       → Charged left a (m.asks w.below p s a) p w v → Kept (allowance m) w v
   asked_at zero a w v p s l h = kept_same (allowance m) w v h.1
-  asked_at (suc n) (Some y) w v p s l h = lift w v (law.asked w.below v.below p s (Some y) l h.0)
-  asked_at (suc n) None w v p s l h = lift w v (law.asked w.below v.below p s None l h.0)
+  asked_at (suc n) a w v p s l h = lift w v (law.asked w.below v.below p s a l (below_at n a w v p s h))
 
   stopped_at : (left : ℕ) (w v : Allowance W) (p s : ℕ) → w.left ≡ left → p < m.count w.below
       → Charged left None (m.asks w.below p s None) p w v → Unmoved (allowance m) w v
@@ -34,8 +38,7 @@ module _ {W : Type 0} (m : Meaning W) (law : Lawful m) where
   sound_at : (left : ℕ) (a : Option Bool) (w v : Allowance W) (p s : ℕ) → p < m.count w.below
       → Charged left a (m.asks w.below p s a) p w v → True a (m.family w.below p s) → m.invariant w.below → m.invariant v.below
   sound_at zero a w v p s l h t i = subst (λ (x : Allowance W). m.invariant x.below) (sym h.1) i
-  sound_at (suc n) (Some y) w v p s l h t i = law.sound w.below v.below p s (Some y) l h.0 t i
-  sound_at (suc n) None w v p s l h t i = law.sound w.below v.below p s None l h.0 t i
+  sound_at (suc n) a w v p s l h t i = law.sound w.below v.below p s a l (below_at n a w v p s h) t i
 
   ready_at : (left : ℕ) (st : Stance) → 0 < left → st ≡ Ready → paid left st ≡ Ready
   ready_at zero st l r = absurd (omega arith)

@@ -11,9 +11,8 @@ pub mod Tallies
 pub mod Verdicts
 pub mod Workshops
 pub mod AllowanceLaws
-pub mod ReplyFacts
+pub mod StanceFacts
 pub mod KeptFacts
 pub mod MemoLaws
 pub mod KnownFacts
-pub mod Ring
 pub mod PairLaws

@@ -1,31 +1,22 @@
 -- The laws of a memo, from those of the workshop below.
-use Rattle.std.specs.Prelude.{◌≡◌, ℕ, ◌<◌, ◌≤◌, Bool, true, false, cond, List, [], ◌∷◌, ◌++◌, length, drop, Some, None, Ok, Option, nat_lt, refl}
+use Rattle.std.specs.Prelude.{◌≡◌, ℕ, ◌<◌, ◌≤◌, Bool, true, false, cond, List, [], ◌∷◌, ◌++◌, length, drop, Some, None, Option, nat_lt, refl}
 use Rattle.std.proofs.Common.{sym, ap, subst, ◌∙◌, ⊎_elim}
 use Rattle.jobs.specs.Sets.{bits}
 use Rattle.jobs.specs.Words.{Same}
-use Rattle.jobs.specs.declared.set.JobSet.{JobSet}
 use Rattle.workshops.specs.Stances.{Stance, Ready, Stopped, deeper}
-use Rattle.workshops.specs.Replies.{True, Allowed, answer, given}
+use Rattle.workshops.specs.Replies.{True}
 use Rattle.workshops.specs.Workshops.{Meaning, Kept, Unmoved, Lawful}
 use Rattle.workshops.specs.Remembered.{remembered, room, Settles, Knows, known}
 use Rattle.workshops.specs.Memos.{note, AllTrue, recalled, Recalls, memo}
 use Rattle.workshops.specs.declared.memo.Memo.{Memo}
 use Rattle.workshops.specs.declared.notes.Note.{Note}
-use Rattle.workshops.specs.ReplyFacts.{never, deeper_ready, deeper_bytes}
+use Rattle.workshops.specs.StanceFacts.{never, deeper_ready, deeper_bytes}
 use Rattle.workshops.specs.KeptFacts.{kept_same, unmoved_same}
 use Rattle.workshops.specs.KnownFacts.{known_knows}
 
 true_same : (y : Bool) {F G : Type 0} → Same F G → True (Some y) F → True (Some y) G
 true_same true e t = e.0 t
 true_same false e t = λ g. t (e.1 g)
-
-given_answer : (y : Bool) → given (answer y) ≡ Some y
-given_answer true = refl
-given_answer false = refl
-
-allowed_answer : (y : Bool) (st : Stance) (p : ℕ) (set : JobSet) → st ≡ Ready → Allowed st p set (Ok (answer y))
-allowed_answer true st p set e = e
-allowed_answer false st p set e = e
 
 module _ {W : Type 0} (m : Meaning W) where
   all_append : (w : W) (xs ys : List Note) → AllTrue m w xs → AllTrue m w ys → AllTrue m w (xs ++ ys)
@@ -76,10 +67,14 @@ module _ {W : Type 0} (m : Meaning W) (law : Lawful m) where
   bytes_at (Some y) st f c d h = absurd (never h)
   bytes_at None st f c d h = deeper_bytes st f c d h
 
+  -- what is not known was asked below
+  below_at : (a : Option Bool) (w v : Memo W) (p s : ℕ) → Recalls None a (m.asks w.below p s a) p s w v → m.asks w.below p s a v.below
+  below_at (Some y) w v p s h = h.0
+  below_at None w v p s h = h.0
+
   asked_at : (k a : Option Bool) (w v : Memo W) (p s : ℕ) → p < m.count w.below → Recalls k a (m.asks w.below p s a) p s w v → Kept (memo m) w v
   asked_at (Some y) a w v p s l h = kept_same (memo m) w v h.1
-  asked_at None (Some y) w v p s l h = lift w v (law.asked w.below v.below p s (Some y) l h.0)
-  asked_at None None w v p s l h = lift w v (law.asked w.below v.below p s None l h.0)
+  asked_at None a w v p s l h = lift w v (law.asked w.below v.below p s a l (below_at a w v p s h))
 
   stopped_at : (k : Option Bool) (w v : Memo W) (p s : ℕ) → p < m.count w.below → Recalls k None (m.asks w.below p s None) p s w v → Unmoved (memo m) w v
   stopped_at (Some y) w v p s l h q t lq = unmoved_same (memo m) w v h.1 q t lq

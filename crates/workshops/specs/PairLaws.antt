@@ -1,19 +1,15 @@
 -- The laws of a pair, from those of its two workshops.
-use Rattle.std.specs.Prelude.{◌≡◌, ℕ, ◌+◌, ◌-◌, ◌<◌, ◌≤◌, min, Bool, true, false, cond, None, Ok, Option, nat_lt, refl}
+use Rattle.std.specs.Prelude.{◌≡◌, ℕ, ◌+◌, ◌-◌, ◌<◌, ◌≤◌, min, Bool, true, false, cond, None, Option, nat_lt, refl}
 use Rattle.std.proofs.Common.{sym, ap, subst, ◌∙◌, arith}
-use Rattle.std.proofs.lemmas.Bool.{ltb-true, ltb-false, cond-true, cond-false, lt-ltb, le-ltb}
+use Rattle.std.proofs.lemmas.Bool.{ltb-true, ltb-false}
 use Rattle.jobs.specs.Sets.{Part}
 use Rattle.jobs.specs.Words.{Same}
 use Rattle.workshops.specs.Stances.{Ready, Stopped, deeper}
-use Rattle.jobs.specs.Sets.{bits}
-use Rattle.jobs.specs.declared.set.JobSet.{JobSet}
-use Rattle.workshops.specs.Replies.{True, Allowed, given, raised}
-use Rattle.workshops.specs.Verdicts.{Verdict}
-use Rattle.workshops.specs.declared.reply.Reply.{Reply}
+use Rattle.workshops.specs.Replies.{True}
 use Rattle.workshops.specs.Workshops.{Meaning, Kept, Unmoved, Lawful}
 use Rattle.workshops.specs.Pairs.{Side, in_first, in_second, side, family_at, stance_at, AsksAt, pair}
 use Rattle.workshops.specs.declared.pair.Pair.{Pair}
-use Rattle.workshops.specs.ReplyFacts.{deeper_ready, deeper_bytes, allowed_passed, given_passed}
+use Rattle.workshops.specs.StanceFacts.{deeper_ready, deeper_bytes}
 use Rattle.workshops.specs.KeptFacts.{kept_same, unmoved_same}
 
 -- the place lies below the count of its side
@@ -25,16 +21,10 @@ inside_at : (x : Bool) (before after p : ℕ) → nat_lt p before ≡ x → p < 
 inside_at true before after p e l = ltb-true _ _ e
 inside_at false before after p e l = let k = ltb-false _ _ e in omega arith
 
-inside : (before after p : ℕ) → p < min 255 (before + after) → Inside before after (side before p)
-inside before after p = inside_at (nat_lt p before) before after p refl
-
-pub side_first : (before p : ℕ) → p < before → side before p ≡ in_first p
-side_first before p l = cond-true _ _ _ (lt-ltb _ _ l)
-
-pub side_second : (before p : ℕ) → before ≤ p → side before p ≡ in_second (p - before)
-side_second before p l = cond-false _ _ _ (le-ltb _ _ l)
-
 module _ {V W : Type 0} (m : Meaning V) (n : Meaning W) (one : Lawful m) (two : Lawful n) where
+  inside : (w : Pair V W) (p : ℕ) → p < (pair m n).count w → Inside (m.count w.first) (n.count w.second) (side (m.count w.first) p)
+  inside w p = inside_at (nat_lt p (m.count w.first)) (m.count w.first) (n.count w.second) p refl
+
   bytes_at : (z : Side) (w : Pair V W) (s c d : ℕ) → Inside (m.count w.first) (n.count w.second) z → stance_at m n z w s ≡ Stopped c d → (c ≤ 255) × (d ≤ 255)
   bytes_at (in_first q) w s c d l h = deeper_bytes (m.stance w.first q s) (λ c d. one.bytes w.first q s c d l) c d h
   bytes_at (in_second q) w s c d l h = deeper_bytes (n.stance w.second q s) (λ c d. two.bytes w.second q s c d l) c d h
@@ -53,7 +43,7 @@ module _ {V W : Type 0} (m : Meaning V) (n : Meaning W) (one : Lawful m) (two : 
     count = let e = k.count in let f = j.count in cc;
     family = λ p s l.
         let F : ℕ → Type 0 = λ c. Same (family_at m n (side (m.count w.first) p) w s) (family_at m n (side c p) v s) in
-        subst F (sym k.count) (family_kept (side (m.count w.first) p) w v s k j (inside (m.count w.first) (n.count w.second) p l));
+        subst F (sym k.count) (family_kept (side (m.count w.first) p) w v s k j (inside w p l));
   }
 
   asked_at : (z : Side) (w v : Pair V W) (s : ℕ) (a : Option Bool) → Inside (m.count w.first) (n.count w.second) z → AsksAt m n z w s a v → Kept (pair m n) w v
@@ -67,7 +57,7 @@ module _ {V W : Type 0} (m : Meaning V) (n : Meaning W) (one : Lawful m) (two : 
 
   both_unmoved : (w v : Pair V W) → m.count v.first ≡ m.count w.first → Unmoved m w.first v.first → Unmoved n w.second v.second → Unmoved (pair m n) w v
   both_unmoved w v e f g p s l =
-      ap (λ c. stance_at m n (side c p) v s) e ∙ stance_kept (side (m.count w.first) p) w v s f g (inside (m.count w.first) (n.count w.second) p l)
+      ap (λ c. stance_at m n (side c p) v s) e ∙ stance_kept (side (m.count w.first) p) w v s f g (inside w p l)
 
   stopped_at : (z : Side) (w v : Pair V W) (s : ℕ) → Inside (m.count w.first) (n.count w.second) z → AsksAt m n z w s None v → Unmoved (pair m n) w v
   stopped_at (in_first q) w v s l h =
@@ -88,45 +78,14 @@ module _ {V W : Type 0} (m : Meaning V) (n : Meaning W) (one : Lawful m) (two : 
   pub pair_lawful : Lawful (pair m n)
   pair_lawful = record {
     few = λ w. omega arith;
-    bytes = λ w p s c d l. bytes_at (side (m.count w.first) p) w s c d (inside _ (n.count w.second) p l);
-    parts = λ w p part whole l. parts_at (side (m.count w.first) p) w part whole (inside _ (n.count w.second) p l);
-    asked = λ w v p s a l. asked_at (side (m.count w.first) p) w v s a (inside _ (n.count w.second) p l);
-    stopped = λ w v p s l. stopped_at (side (m.count w.first) p) w v s (inside _ (n.count w.second) p l);
-    sound = λ w v p s a l. sound_at (side (m.count w.first) p) w v s a (inside _ (n.count w.second) p l);
+    bytes = λ w p s c d l. bytes_at (side (m.count w.first) p) w s c d (inside w p l);
+    parts = λ w p part whole l. parts_at (side (m.count w.first) p) w part whole (inside w p l);
+    asked = λ w v p s a l. asked_at (side (m.count w.first) p) w v s a (inside w p l);
+    stopped = λ w v p s l. stopped_at (side (m.count w.first) p) w v s (inside w p l);
+    sound = λ w v p s a l. sound_at (side (m.count w.first) p) w v s a (inside w p l);
     granted = λ w v k g. both_kept w v (one.granted _ _ k g.0) (two.granted _ _ k g.1);
     eased = λ w v k g p s l r.
         let e = (one.granted w.first v.first k g.0).count in
-        ap (λ c. stance_at m n (side c p) v s) e ∙ eased_at (side (m.count w.first) p) w v k s g.0 g.1 (inside _ (n.count w.second) p l) r;
+        ap (λ c. stance_at m n (side c p) v s) e ∙ eased_at (side (m.count w.first) p) w v k s g.0 g.1 (inside w p l) r;
     carried = λ w v k g i. (one.carried _ _ k g.0 i.0, two.carried _ _ k g.1 i.1);
   }
-
-module _ {V W : Type 0} (m : Meaning V) (n : Meaning W) where
-  -- a call that asked the workshop of its side, and no other
-  verdict_at : (z : Side) (w v : Pair V W) (p : ℕ) (set : JobSet) (r : Reply) → side (m.count w.first) p ≡ z → p < (pair m n).count w
-      → Allowed (stance_at m n z w (bits set)) p set (Ok r) → AsksAt m n z w (bits set) (given r) v
-      → (m.invariant w.first → n.invariant w.second → True (given r) (family_at m n z w (bits set)))
-      → Verdict (pair m n) w p set (Ok r) v
-  verdict_at z w v p set r e l allowed asks truth = record {
-    refuses = λ g. absurd (omega arith);
-    answers = λ k. subst (λ (x : Side). Allowed (stance_at m n x w (bits set)) p set (Ok r)) (sym e) allowed;
-    asks = λ k. subst (λ (x : Side). AsksAt m n x w (bits set) (given r) v) (sym e) asks;
-    truth = λ i k. subst (λ (x : Side). True (given r) (family_at m n x w (bits set))) (sym e) (truth i.0 i.1);
-  }
-
-  pub first_verdict : (w v : Pair V W) (p : ℕ) (set : JobSet) (y r : Reply) → p < (pair m n).count w → p < m.count w.first
-      → Verdict m w.first p set (Ok y) v.first → v.second ≡ w.second → r ≡ raised p y → Verdict (pair m n) w p set (Ok r) v
-  first_verdict w v p set y r l k below same e =
-      verdict_at (in_first p) w v p set r (side_first _ p k) l
-      (allowed_passed (m.stance w.first p (bits set)) p p set y r e (below.answers k))
-      (subst (λ (a : Option Bool). m.asks w.first p (bits set) a v.first) (sym (given_passed p y r e)) (below.asks k), same)
-      (λ i j. subst (λ (a : Option Bool). True a (m.family w.first p (bits set))) (sym (given_passed p y r e)) (below.truth i k))
-
-  pub second_verdict : (w v : Pair V W) (p before : ℕ) (set : JobSet) (y r : Reply) → before ≡ m.count w.first → p < (pair m n).count w → before ≤ p
-      → Verdict n w.second (p - before) set (Ok y) v.second → v.first ≡ w.first → r ≡ raised p y → Verdict (pair m n) w p set (Ok r) v
-  second_verdict w v p before set y r b l g below same e =
-      let q = p - before in
-      let k : p - before < n.count w.second = omega arith in
-      verdict_at (in_second q) w v p set r (ap (λ c. side c p) (sym b) ∙ side_second before p g) l
-      (allowed_passed (n.stance w.second q (bits set)) p q set y r e (below.answers k))
-      (subst (λ (a : Option Bool). n.asks w.second q (bits set) a v.second) (sym (given_passed p y r e)) (below.asks k), same)
-      (λ i j. subst (λ (a : Option Bool). True a (n.family w.second q (bits set))) (sym (given_passed p y r e)) (below.truth j k))

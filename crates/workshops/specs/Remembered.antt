@@ -1,5 +1,5 @@
 -- Remembered verdicts as a list, oldest first, and what is known from them.
-use Rattle.std.specs.Prelude.{◌≡◌, ℕ, Bool, true, false, cond, not, ◌&&◌, ◌||◌, ◌⊎◌, List, [], ◌∷◌, ◌++◌, length, take, drop, Some, None, Option, ◌==◌, nat_lt}
+use Rattle.std.specs.Prelude.{◌≡◌, ℕ, Bool, true, false, cond, not, ◌&&◌, ◌||◌, ◌⊎◌, List, [], ◌∷◌, ◌++◌, length, drop, Some, None, Option, ◌==◌, nat_lt}
 use Rattle.jobs.specs.Sets.{bits, Part, joined as union}
 use Rattle.workshops.specs.declared.notes.Note.{Note}
 use Rattle.workshops.specs.declared.notes.Notes.{Notes}
@@ -10,7 +10,7 @@ room = 64
 
 -- what is remembered, oldest first
 abbrev pub remembered : Notes → List Note
-remembered n = drop n.oldest (take n.held n.notes) ++ take n.oldest n.notes
+remembered n = n.notes.items
 
 -- one more at the end, in place of the oldest where there is no room
 abbrev pub joined : List Note → Note → List Note

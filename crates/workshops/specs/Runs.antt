@@ -1,11 +1,9 @@
 -- Lists of calls of a workshop, and what holds over each of them.
-use Rattle.std.specs.Prelude.{◌≡◌, ℕ, ◌<◌, List, [], ◌∷◌, Ok, Result}
+use Rattle.std.specs.Prelude.{◌≡◌, ℕ, ◌<◌, List, [], ◌∷◌, Bool, Ok, Err, Result}
 use Rattle.jobs.specs.declared.refusal.Refusal.{Refusal}
 use Rattle.jobs.specs.declared.set.JobSet.{JobSet}
 use Rattle.jobs.specs.Sets.{bits}
 use Rattle.workshops.specs.declared.reply.Fault.{Fault}
-use Rattle.workshops.specs.declared.reply.Reply.{Reply}
-use Rattle.workshops.specs.declared.reply.Reply.TheVariants.{Stop}
 use Rattle.workshops.specs.Replies.{True, given_by}
 use Rattle.workshops.specs.Stances.{Stopped}
 use Rattle.workshops.specs.Verdicts.{Verdict, Grant}
@@ -13,7 +11,7 @@ use Rattle.workshops.specs.Workshops.{Meaning, Kept}
 
 -- a call, and a question's result
 pub data Event : Type 0 where
-  asked : ℕ → JobSet → Result Reply Refusal → Event
+  asked : ℕ → JobSet → Result (Result Bool Fault) Refusal → Event
   granted : ℕ → Event
 
 -- the calls lead from w to v, each as promised
@@ -35,4 +33,4 @@ pub record Steady {W : Type 0} (m : Meaning W) : Type 0 where
   pub sound : (es : List Event) (w v : W) → Runs m es w v → m.invariant w → m.invariant v
   pub told : (es : List Event) (w v : W) → Runs m es w v → m.invariant w → AllTold m w es
   -- a question that stopped would stop again, with the same cause and depth
-  pub again : (w v : W) (p : ℕ) (set : JobSet) (f : Fault) → Verdict m w p set (Ok (Stop f)) v → (p < m.count v) × (m.stance v p (bits set) ≡ Stopped f.cause f.depth)
+  pub again : (w v : W) (p : ℕ) (set : JobSet) (f : Fault) → Verdict m w p set (Ok (Err f)) v → (p < m.count v) × (m.stance v p (bits set) ≡ Stopped f.cause f.depth)

@@ -7,9 +7,7 @@ use Rattle.jobs.specs.declared.refusal.Refusal.{Refusal}
 use Rattle.jobs.specs.declared.refusal.Refusal.TheVariants.{NoSuchPlace}
 use Rattle.jobs.specs.declared.set.JobSet.{JobSet}
 use Rattle.workshops.specs.declared.reply.Fault.{Fault}
-use Rattle.workshops.specs.declared.reply.Reply.TheVariants.{Stop}
 use Rattle.workshops.specs.declared.tally.Tally.{Tally}
-use Rattle.workshops.specs.Replies.{answer}
 use Rattle.workshops.specs.Runs.{Event, asked, Runs}
 use Rattle.workshops.specs.Stances.{Stopped}
 use Rattle.workshops.specs.Workshops.{Meaning, Kept}
@@ -24,7 +22,7 @@ yeses (false ∷ ys) = yeses ys
 abbrev pub questions : ℕ → List JobSet → List Bool → List Event
 questions p sets [] = []
 questions p [] (y ∷ ys) = []
-questions p (s ∷ sets) (y ∷ ys) = asked p s (Ok (answer y)) ∷ questions p sets ys
+questions p (s ∷ sets) (y ∷ ys) = asked p s (Ok (Ok y)) ∷ questions p sets ys
 
 -- each of the first sets is answered, and yes exactly where it is in the family
 abbrev pub Exact : (ℕ → Type 0) → List JobSet → List Bool → Type 0
@@ -36,7 +34,7 @@ Exact family (s ∷ sets) (y ∷ ys) = Exactly y (family (bits s)) × Exact fami
 abbrev pub Ends : {W : Type 0} → Meaning W → W → ℕ → List JobSet → List Bool → Option Fault → W → Type 0
 Ends m w p sets ys None v = (length ys ≡ length sets) × Runs m (questions p sets ys) w v
 Ends m w p sets ys (Some f) v = (length ys < length sets) × (slice_index_or sets (length ys) f.set ≡ f.set)
-    × Runs m (questions p sets ys ++ (asked p f.set (Ok (Stop f)) ∷ [])) w v × (m.stance v p (bits f.set) ≡ Stopped f.cause f.depth)
+    × Runs m (questions p sets ys ++ (asked p f.set (Ok (Err f)) ∷ [])) w v × (m.stance v p (bits f.set) ≡ Stopped f.cause f.depth)
 
 pub record Tallied {W : Type 0} (m : Meaning W) (w : W) (p : ℕ) (sets : List JobSet) (t : Tally) (v : W) : Type 0 where
   -- the answers, in the order of the sets

@@ -38,7 +38,7 @@ impl<W: Workshop> Workshop for Allowance<W> {
             return Err(Refusal::NoSuchPlace);
         }
         if self.left == 0 {
-            return Ok(Reply::Stop(Fault {
+            return Ok(Err(Fault {
                 cause: SPENT,
                 depth: 0,
                 place,
@@ -46,10 +46,10 @@ impl<W: Workshop> Workshop for Allowance<W> {
             }));
         }
         let reply = self.below.verdict(place, set)?;
-        if reply.given().is_some() {
+        if reply.is_ok() {
             self.left -= 1;
         }
-        Ok(reply.raised(place))
+        Ok(reply.map_err(|fault| fault.raised(place)))
     }
 
     fn grant(&mut self, amount: u16) {

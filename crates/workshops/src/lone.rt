@@ -36,7 +36,7 @@ impl<F: Facility> Workshop for Lone<F> {
         if place != 0 {
             return Err(Refusal::NoSuchPlace);
         }
-        Ok(Reply::of(self.facility.verdict(set)))
+        Ok(Ok(self.facility.verdict(set)))
     }
 
     fn grant(&mut self, _amount: u16) {}

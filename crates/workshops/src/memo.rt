@@ -53,13 +53,13 @@ impl<W: Workshop> Workshop for Memo<W> {
             return Err(Refusal::NoSuchPlace);
         }
         if let Some(yes) = self.recall(place, set) {
-            return Ok(Reply::of(yes));
+            return Ok(Ok(yes));
         }
         let reply = self.below.verdict(place, set)?;
-        if let Some(yes) = reply.given() {
+        if let Ok(yes) = reply {
             self.notes.remember(Note { place, set, yes });
         }
-        Ok(reply.raised(place))
+        Ok(reply.map_err(|fault| fault.raised(place)))
     }
 
     fn grant(&mut self, amount: u16) {

@@ -38,10 +38,12 @@ impl<V: Workshop, W: Workshop> Workshop for Pair<V, W> {
         if place >= before.saturating_add(self.second.count()) {
             return Err(Refusal::NoSuchPlace);
         }
-        if place < before {
-            return Ok(self.first.verdict(place, set)?.raised(place));
-        }
-        Ok(self.second.verdict(place - before, set)?.raised(place))
+        let reply = if place < before {
+            self.first.verdict(place, set)?
+        } else {
+            self.second.verdict(place - before, set)?
+        };
+        Ok(reply.map_err(|fault| fault.raised(place)))
     }
 
     fn grant(&mut self, amount: u16) {

@@ -2,13 +2,13 @@
 ghost use Rattle.workshops.specs.Runs.{Steady};
 ghost use Rattle.workshops.specs.Tallies.{AskedAll};
 
-use crate::reply::{Fault, Reply};
+use crate::reply::Fault;
 use crate::workshop::Workshop;
 use jobs::refusal::Refusal;
 use jobs::set::JobSet;
 
 // What came of it.
-#[derive(Clone, Copy, PartialEq, Eq, Debug)]
+#[derive(Clone, Copy, PartialEq, Eq, Debug, Default)]
 pub struct Tally {
     // How many sets were answered, from the first on.
     pub answered: usize,
@@ -26,23 +26,18 @@ pub fn ask_all<W: Workshop>(workshop: &mut W, place: u8, sets: &[JobSet]) -> Res
     if place >= workshop.count() {
         return Err(Refusal::NoSuchPlace);
     }
-    let mut yes = 0;
-    for i in 0..sets.len() {
-        match workshop.verdict(place, sets[i])? {
-            Reply::Yes => yes += 1,
-            Reply::No => {}
-            Reply::Stop(fault) => {
-                return Ok(Tally {
-                    answered: i,
-                    yes,
-                    stop: Some(fault),
-                });
+    let mut tally = Tally::default();
+    for set in sets {
+        match workshop.verdict(place, *set)? {
+            Ok(yes) => {
+                tally.answered += 1;
+                tally.yes += usize::from(yes);
+            }
+            Err(fault) => {
+                tally.stop = Some(fault);
+                break;
             }
         }
     }
-    Ok(Tally {
-        answered: sets.len(),
-        yes,
-        stop: None,
-    })
+    Ok(tally)
 }

@@ -51,7 +51,7 @@ impl Workshop for Closed {
         if place >= self.places {
             return Err(Refusal::NoSuchPlace);
         }
-        Ok(Reply::Stop(Fault {
+        Ok(Err(Fault {
             cause: self.cause,
             depth: self.depth,
             place,

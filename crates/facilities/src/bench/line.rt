@@ -1,15 +1,14 @@
 // A line of jobs on the bench, which grows by the next job to run.
-ghost use Rattle.std.specs.Prelude.{◌≡◌, ◌<◌, [], length};
+ghost use Rattle.std.specs.Prelude.{◌≡◌, [], length};
 ghost use Rattle.jobs.specs.Sets.{width, bits, jobs_of};
-ghost use Rattle.facilities.specs.Choices.{chosen};
-ghost use Rattle.facilities.specs.Lines.{Lined, After, Sound};
+ghost use Rattle.facilities.specs.Lines.{batch_of, Lined, After, chosen, Sound};
 ghost use Rattle.facilities.specs.Rows.{row_list};
 ghost use Rattle.facilities.specs.LinesLemmas.{lined_front};
 ghost use Rattle.std.proofs.Common.{rules};
 
-use crate::choices::Choices;
 use crate::rows::{Rows, Window};
 use crate::trial::Trial;
+use arrayvec::ArrayVec;
 use jobs::set::{JOBS, JobSet};
 
 // The jobs to be run, and the rows of all jobs.
@@ -20,36 +19,36 @@ pub(crate) struct Batch {
 }
 
 // Which jobs are left to run, and at which hour.
-#[derive(Clone, Copy)]
+#[derive(Clone, Copy, Default)]
 pub(crate) struct Moment {
     left: JobSet,
     hour: u16,
 }
 
-// The jobs run so far, the moment at which they have, and the earlier ones.
+// A job that has run, and the moment before it.
+#[derive(Clone, Copy, Default)]
+pub(crate) struct Step {
+    job: u16,
+    before: Moment,
+}
+
+// The steps so far, and the moment to which they lead.
 #[derive(Drop)]
 pub(crate) struct Line {
     batch: Batch,
-    order: Choices,
+    steps: ArrayVec<Step, JOBS>,
     at: Moment,
-    past: [Moment; JOBS],
 }
 
 impl Moment {
     // The moment at which this job has run too, if it can be the next.
     fn after(self, rows: &Rows<Window>, job: u32) -> Option<Moment>
-        requires { job < width }
         ensures { After (row_list rows.now) self job result }
     {
         if !self.left.contains(job) {
             return None;
         }
-        let Some(window) = rows.get(job) else {
-            return None;
-        };
-        let Some(hour) = window.end_from(self.hour) else {
-            return None;
-        };
+        let hour = rows.get(job)?.end_from(self.hour)?;
         let left = self.left.without(job);
         Some(Moment { left, hour })
     }
@@ -58,17 +57,14 @@ impl Moment {
 impl Line {
     // No job has run.
     pub(crate) fn new(rows: Rows<Window>, set: JobSet) -> Line
-        ensures rows { result.batch.rows ≡ rows }
-        ensures set { result.batch.set ≡ set }
-        ensures fresh { chosen result.order ≡ [] }
+        ensures batch { result.batch ≡ batch_of rows set }
+        ensures fresh { chosen result.steps.items ≡ [] }
         ensures sound { Sound result }
     {
-        let at = Moment { left: set, hour: 0 };
         Line {
             batch: Batch { rows, set },
-            order: Choices::none(),
-            at,
-            past: [at; JOBS],
+            steps: ArrayVec::new(),
+            at: Moment { left: set, hour: 0 },
         }
     }
 }
@@ -78,7 +74,7 @@ impl Trial for Line {
 
     ghost problem = { λ l. l.batch };
 
-    ghost taken = { λ l. chosen l.order };
+    ghost taken = { λ l. chosen l.steps.items };
 
     ghost sound = { Sound };
 
@@ -101,17 +97,22 @@ impl Trial for Line {
     }
 
     fn take(&mut self, choice: u16) -> bool {
-        let Some(next) = self.at.after(&self.batch.rows, choice as u32) else {
+        let Some(next) = self.at.after(&self.batch.rows, u32::from(choice)) else {
             return false;
         };
-        self.past[self.order.len()] = self.at;
+        let step = Step {
+            job: choice,
+            before: self.at,
+        };
+        self.steps.push(step);
         self.at = next;
-        self.order.push(choice);
         true
     }
 
     fn undo(&mut self) {
-        let _ = self.order.pop();
-        self.at = self.past[self.order.len()];
+        let Some(step) = self.steps.pop() else {
+            return;
+        };
+        self.at = step.before;
     }
 }

@@ -1,11 +1,14 @@
 // Reading and replacing rows.
 ghost use Rattle.std.specs.Prelude.{◌≡◌, ℕ, ◌<◌, replicate, Some, None, slice_set};
 ghost use Rattle.jobs.specs.Sets.{width};
+ghost use Rattle.jobs.specs.declared.refusal.Refusal.TheVariants.{BadRow};
+ghost use Rattle.jobs.specs.Refusals.{Answered, unless};
 ghost use Rattle.jobs.specs.Words.{Exactly};
 ghost use Rattle.facilities.specs.Orders.{Ends};
-ghost use Rattle.facilities.specs.Rows.{row_list, row, in_day, Made, WindowOf, Fits};
+ghost use Rattle.facilities.specs.Rows.{row_list, row, in_day, WindowOf, Fits};
 
 use crate::rows::{HOURS, Rows, Window};
+use jobs::refusal::Refusal;
 use jobs::set::JOBS;
 
 impl<R: Copy> Rows<R> {
@@ -18,11 +21,9 @@ impl<R: Copy> Rows<R> {
 
     // The row of the job, if it has one.
     pub(crate) fn get(&self, job: u32) -> Option<R>
-        requires { job < width }
         ensures { result ≡ row (row_list self.now) job }
     {
-        let row = &self.held[job as usize];
-        *row
+        *self.held.get(job as usize)?
     }
 
     // The row takes the place of the job's old one.
@@ -36,22 +37,13 @@ impl<R: Copy> Rows<R> {
 
 impl Window {
     // The window of these hours, if they go together.
-    pub(crate) fn of(release: u32, takes: u32, due: u32) -> Option<Window>
-        ensures { Made (in_day release takes due) (WindowOf release takes due) result }
+    pub(crate) fn of(release: u32, takes: u32, due: u32) -> Result<Window, Refusal>
+        ensures { Answered (unless (in_day release takes due) BadRow None) result (WindowOf release takes due) }
     {
-        if takes == 0 {
-            return None;
+        if takes == 0 || due > HOURS || takes > due || release > due - takes {
+            return Err(Refusal::BadRow);
         }
-        if due > HOURS {
-            return None;
-        }
-        if takes > due {
-            return None;
-        }
-        if release > due - takes {
-            return None;
-        }
-        Some(Window {
+        Ok(Window {
             release: release as u16,
             takes: takes as u16,
             due: due as u16,
@@ -83,10 +75,7 @@ impl Window {
     pub(crate) fn fits(&self, start: u16) -> bool
         ensures { Exactly result (Fits self.now start) }
     {
-        if start < self.release {
-            return false;
-        }
-        start <= self.due - self.takes
+        self.release <= start && start <= self.due - self.takes
     }
 
     // The hour at which the job ends if it starts as early as it can from this hour on. None if that is too late.
@@ -94,7 +83,7 @@ impl Window {
         ensures { Ends self.now hour result }
     {
         let start = hour.max(self.release);
-        if start > self.due - self.takes {
+        if !self.fits(start) {
             return None;
         }
         Some(start + self.takes)

@@ -14,7 +14,7 @@ use jobs::set::JOBS;
 fn in_range(supply: u32) -> bool
     ensures { result ≡ in_range supply }
 {
-    supply >= 1 && supply <= 255
+    (1..=255).contains(&supply)
 }
 
 impl Stand {
@@ -44,9 +44,7 @@ impl Stand {
         if job >= JOBS as u32 {
             return Err(Refusal::NoSuchJob);
         }
-        let Some(row) = StandRow::of(release, takes, due, draw, self.supply) else {
-            return Err(Refusal::BadRow);
-        };
+        let row = StandRow::of(release, takes, due, draw, self.supply)?;
         self.rows.put(job, row);
         Ok(())
     }

@@ -1,10 +1,9 @@
 // Start hours for the jobs of a set, given one after the other from the lowest job.
-use crate::choices::Choices;
 use crate::rows::Rows;
 use crate::stand::row::StandRow;
 use crate::stand::usage::Usage;
-use jobs::list::JobList;
-use jobs::set::JobSet;
+use arrayvec::ArrayVec;
+use jobs::set::{JOBS, JobSet};
 
 pub mod calls;
 
@@ -20,7 +19,7 @@ pub(crate) struct Demand {
 #[derive(Drop)]
 pub(crate) struct Timetable {
     demand: Demand,
-    jobs: JobList,
-    starts: Choices,
+    jobs: ArrayVec<u32, JOBS>,
+    starts: ArrayVec<u16, JOBS>,
     usage: Usage,
 }

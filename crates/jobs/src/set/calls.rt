@@ -1,11 +1,12 @@
 // What can be asked of a set of jobs, and made of it.
-ghost use Rattle.std.specs.Prelude.{◌≡◌, ℕ, ◌^◌, ◌⊎◌, length, ◌≢◌};
+ghost use Rattle.std.specs.Prelude.{◌≡◌, ℕ, ◌^◌, ◌⊎◌, length, ◌≢◌, MatchOption};
 ghost use Rattle.jobs.specs.Refusals.{Answered};
-ghost use Rattle.jobs.specs.Sets.{width, bits, Has, Part, without, with_job, joined, jobs_of, Lowest, job_refusal};
+ghost use Rattle.jobs.specs.Sets.{bits, Has, Part, without, with_job, joined, jobs_of, Lowest, job_refusal};
 ghost use Rattle.jobs.specs.Words.{Same, Exactly};
 
 use crate::refusal::Refusal;
 use crate::set::{JOBS, JobSet};
+use arrayvec::ArrayVec;
 
 impl JobSet {
     // The set with no job.
@@ -93,15 +94,28 @@ impl JobSet {
         self.bits.count_ones() as usize
     }
 
-    // The lowest job of the set, or JOBS where it is empty.
-    pub fn lowest(self) -> u32
-        ensures { Lowest width (bits self) result }
+    // The lowest job of the set, if it has one.
+    pub fn lowest(self) -> Option<u32>
+        ensures { MatchOption result ((j : ℕ) → Has (bits self) j → ⊥) (Lowest (bits self)) }
     {
         for job in 0..JOBS as u32 {
             if self.contains(job) {
-                return job;
+                return Some(job);
             }
         }
-        JOBS as u32
+        None
+    }
+
+    // The jobs of the set, from the lowest.
+    pub fn jobs(self) -> ArrayVec<u32, JOBS>
+        ensures { result.items ≡ jobs_of (bits self) }
+    {
+        let mut jobs = ArrayVec::new();
+        for job in 0..JOBS as u32 {
+            if self.contains(job) {
+                jobs.push(job);
+            }
+        }
+        jobs
     }
 }

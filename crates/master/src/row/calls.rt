@@ -27,16 +27,11 @@ impl Row {
         ensures { Answered (jobs_refusal (length places.now)) result (λ row. row_places row ≡ places.now) }
     {
         let jobs = places.len();
-        if jobs < 1 {
-            return Err(Refusal::JobsOutOfRange);
-        }
-        if jobs > JOBS {
+        if jobs < 1 || jobs > JOBS {
             return Err(Refusal::JobsOutOfRange);
         }
         let mut row = [0; JOBS];
-        for job in 0..jobs {
-            row[job] = places[job];
-        }
+        row[..jobs].copy_from_slice(places);
         Ok(Row::of(row, jobs as u8))
     }
 
@@ -47,14 +42,18 @@ impl Row {
         self.jobs
     }
 
+    // The places of the jobs, in order.
+    pub fn places(&self) -> &[u8]
+        ensures { result.now ≡ row_places self.now }
+    {
+        &self.places[..usize::from(self.jobs)]
+    }
+
     // The place that the job is given, if the row has the job.
     pub fn place(&self, job: u32) -> Option<u8>
         ensures { result ≡ slice_get (row_places self.now) job }
     {
-        if job >= self.jobs as u32 {
-            return None;
-        }
-        Some(self.places[job as usize])
+        self.places().get(job as usize).copied()
     }
 
     // The set of the jobs that are given the place.
@@ -62,8 +61,8 @@ impl Row {
         ensures { Group (row_places self.now) place (bits result) }
     {
         let mut set = JobSet::empty();
-        for job in 0..self.jobs {
-            if self.places[job as usize] == place {
+        for (job, at) in self.places().iter().enumerate() {
+            if *at == place {
                 set = include(set, job as u32);
             }
         }
@@ -74,9 +73,6 @@ impl Row {
     pub fn same(&self, other: &Row) -> bool
         ensures { Exactly result (row_places self.now ≡ row_places other.now) }
     {
-        if self.jobs != other.jobs {
-            return false;
-        }
-        self.places == other.places
+        self == other
     }
 }

@@ -4,7 +4,7 @@ ghost use Rattle.std.specs.List.{slice_get};
 ghost use Rattle.jobs.specs.Refusals.{Answered};
 ghost use Rattle.jobs.specs.Sets.{width, bits};
 ghost use Rattle.jobs.specs.Words.{Exactly};
-ghost use Rattle.master.specs.Cuts.{room, cut_of, Within, Covers, Adds, UnlessPut, RulesOut, Breaks, Obeys, shown};
+ghost use Rattle.master.specs.Cuts.{cut_of, Within, Covers, Leaves, Adds, UnlessPut, RulesOut, Breaks, Obeys, shown};
 ghost use Rattle.master.specs.Refused.{cut_refusal};
 ghost use Rattle.master.specs.Rows.{row_places, Group};
 ghost use Rattle.master.specs.Tables.{held};
@@ -12,7 +12,8 @@ ghost use Rattle.master.specs.Tables.{held};
 use crate::cut::{Addition, Cut};
 use crate::offer::PLACES;
 use crate::row::Row;
-use crate::table::{CutTable, ROOM};
+use crate::table::CutTable;
+use arrayvec::ArrayVec;
 use jobs::refusal::Refusal;
 use jobs::set::JobSet;
 
@@ -20,10 +21,7 @@ use jobs::set::JobSet;
 fn lies_within(part: Cut, whole: Cut) -> bool
     ensures { Exactly result (Within part whole) }
 {
-    if part.place != whole.place {
-        return false;
-    }
-    part.set.is_part_of(whole.set)
+    part.place == whole.place && part.set.is_part_of(whole.set)
 }
 
 // Whether every job of the cut's set is given its place.
@@ -33,25 +31,13 @@ fn breaks(row: &Row, cut: Cut) -> bool
     cut.set.is_part_of(row.group(cut.place))
 }
 
-// Whether a table with so many cuts can take one more.
-fn has_room(len: usize) -> bool
-    ensures { Exactly result (len < room) }
-{
-    len < ROOM
-}
-
 impl CutTable {
     // The table without cuts.
     pub fn new() -> CutTable
         ensures { held result ≡ [] }
     {
-        let none = Cut {
-            place: 0,
-            set: JobSet::empty(),
-        };
         CutTable {
-            cuts: [none; ROOM],
-            len: 0,
+            cuts: ArrayVec::new(),
         }
     }
 
@@ -59,37 +45,30 @@ impl CutTable {
     pub fn len(&self) -> usize
         ensures { result ≡ length (held self.now) }
     {
-        self.len
+        self.cuts.len()
     }
 
     // The place and the set of cut i, or nothing if fewer are held.
     pub fn cut(&self, i: usize) -> Option<(u8, JobSet)>
         ensures { result ≡ slice_get (map shown (held self.now)) i }
     {
-        if i >= self.len {
-            return None;
-        }
-        let cut = self.cuts[i];
-        Some((cut.place, cut.set))
-    }
-
-    // The cuts held, in their order.
-    fn held(&self) -> &[Cut]
-        ensures { result.now ≡ held self.now }
-    {
-        &self.cuts[..self.len]
+        self.cuts.get(i).map(|cut| (cut.place, cut.set))
     }
 
     // Whether a held cut lies within the given one.
+    // A call of its own: inlined into the search it can take twice the time, as its code comes to lie.
+    #[inline(never)]
     fn covers(&self, new: Cut) -> bool
         ensures { Exactly result (Covers new (held self.now)) }
     {
-        for cut in self.held() {
-            if lies_within(*cut, new) {
-                return true;
-            }
-        }
-        false
+        self.cuts.iter().any(|cut| lies_within(*cut, new))
+    }
+
+    // Removes the cuts that the given one lies within.
+    fn remove_around(&mut self, new: Cut)
+        ensures { Leaves new (held self.old) (held self.new) }
+    {
+        self.cuts.retain(|cut| !lies_within(new, *cut));
     }
 
     // Puts the cut last, unless a held one lies within it. The cuts that it lies within go.
@@ -105,23 +84,12 @@ impl CutTable {
         if self.covers(new) {
             return Ok(Addition::Covered);
         }
-        let mut left = self.cuts;
-        let mut len = 0;
-        for i in 0..self.len {
-            let cut = self.cuts[i];
-            if !lies_within(new, cut) {
-                left[len] = cut;
-                len += 1;
-            }
-        }
-        if !has_room(len) {
+        self.remove_around(new);
+        // Where the table is full still, none went.
+        if self.cuts.is_full() {
             return Ok(Addition::Full);
         }
-        left[len] = new;
-        *self = CutTable {
-            cuts: left,
-            len: len + 1,
-        };
+        self.cuts.push(new);
         Ok(Addition::Put)
     }
 
@@ -129,7 +97,7 @@ impl CutTable {
     pub fn obeys(&self, row: &Row) -> bool
         ensures { Exactly result (Obeys (row_places row.now) (held self.now)) }
     {
-        for cut in self.held() {
+        for cut in &self.cuts {
             if breaks(row, *cut) {
                 return false;
             }
@@ -141,12 +109,10 @@ impl CutTable {
     pub(crate) fn allows_start(&self) -> bool
         ensures { Exactly result (Obeys [] (held self.now)) }
     {
-        for cut in self.held() {
-            if cut.set.is_part_of(JobSet::empty()) {
-                return false;
-            }
-        }
-        true
+        !self
+            .cuts
+            .iter()
+            .any(|cut| cut.set.is_part_of(JobSet::empty()))
     }
 
     // Whether a beginning of a row that obeys the cuts still does with the job put at the place.

@@ -1,32 +1,26 @@
 // Setting and reading prices and bars.
-ghost use Rattle.std.specs.Prelude.{◌≡◌, ℕ, ◌<◌, ◌≤◌};
+ghost use Rattle.std.specs.Prelude.{◌≡◌, Some};
 ghost use Rattle.jobs.specs.Refusals.{Answered};
-ghost use Rattle.jobs.specs.Sets.{width};
-ghost use Rattle.master.specs.Refused.{most_places, tariff_refusal, pair_refusal, price_refusal, IfRefused, if_accepted};
-ghost use Rattle.master.specs.Tariffs.{job_count, place_count, price_of, barred_in, Blank, PricedAt, BarredAt};
+ghost use Rattle.master.specs.Refused.{tariff_refusal, pair_refusal, price_refusal, IfRefused, if_accepted};
+ghost use Rattle.master.specs.Tariffs.{job_count, place_count, terms_of, price_of, barred_in, SetsTerms, Blank, PricedAt, BarredAt};
 
-use crate::offer::{Offer, PLACES, TOP_PRICE};
+use crate::offer::{PLACES, TOP_PRICE, Terms};
+use crate::pair::Pair;
 use crate::tariff::Tariff;
 use jobs::refusal::Refusal;
 use jobs::set::JOBS;
 
-// Whether so many jobs and places are refused.
-pub fn size_refusal(jobs: u32, places: u8) -> Option<Refusal>
-    ensures { result ≡ tariff_refusal jobs places }
+// Refuses numbers of jobs or places that are out of range.
+pub fn check_sizes(jobs: u32, places: u8) -> Result<(), Refusal>
+    ensures { Answered (tariff_refusal jobs places) result (λ _. Unit {0}) }
 {
-    if jobs < 1 {
-        return Some(Refusal::JobsOutOfRange);
+    if jobs < 1 || jobs > JOBS as u32 {
+        return Err(Refusal::JobsOutOfRange);
     }
-    if jobs > JOBS as u32 {
-        return Some(Refusal::JobsOutOfRange);
+    if places < 1 || places > PLACES as u8 {
+        return Err(Refusal::PlacesOutOfRange);
     }
-    if places < 1 {
-        return Some(Refusal::PlacesOutOfRange);
-    }
-    if places > PLACES as u8 {
-        return Some(Refusal::PlacesOutOfRange);
-    }
-    None
+    Ok(())
 }
 
 impl Tariff {
@@ -34,14 +28,8 @@ impl Tariff {
     pub fn new(jobs: u32, places: u8) -> Result<Tariff, Refusal>
         ensures { Answered (tariff_refusal jobs places) result (Blank jobs places) }
     {
-        if let Some(refusal) = size_refusal(jobs, places) {
-            return Err(refusal);
-        }
-        Ok(Tariff {
-            jobs: jobs as u8,
-            places,
-            offers: [Offer::free(); JOBS],
-        })
+        check_sizes(jobs, places)?;
+        Ok(Tariff::blank(jobs as u8, places))
     }
 
     pub fn jobs(&self) -> u8
@@ -56,41 +44,45 @@ impl Tariff {
         self.places
     }
 
-    // Whether a pair is refused.
-    fn pair_refusal(&self, job: u32, place: u32) -> Option<Refusal>
-        ensures { result ≡ pair_refusal (job_count self.now) (place_count self.now) job place }
+    // The pair of these two, where there is such a pair.
+    fn pair(&self, job: u32, place: u32) -> Result<Pair, Refusal>
+        ensures { Answered (pair_refusal (job_count self.now) (place_count self.now) job place) result (λ pair. (pair.job ≡ job) × (pair.place ≡ place)) }
     {
         if job >= self.jobs as u32 {
-            return Some(Refusal::NoSuchJob);
+            return Err(Refusal::NoSuchJob);
         }
         if place >= self.places as u32 {
-            return Some(Refusal::NoSuchPlace);
+            return Err(Refusal::NoSuchPlace);
         }
-        None
+        Ok(Pair {
+            job: job as usize,
+            place: place as u8,
+        })
     }
 
-    // Whether a price for a pair is refused.
-    fn price_refusal(&self, job: u32, place: u32, amount: u32) -> Option<Refusal>
-        ensures { result ≡ price_refusal (job_count self.now) (place_count self.now) job place amount }
+    fn terms(&self, pair: Pair) -> Terms
+        ensures { terms_of self.now pair.job pair.place ≡ Some result }
     {
-        if let Some(refusal) = self.pair_refusal(job, place) {
-            return Some(refusal);
-        }
-        if amount > TOP_PRICE {
-            return Some(Refusal::AmountTooLarge);
-        }
-        None
+        self.offers[pair.job].at(pair.place as usize)
+    }
+
+    fn set_terms(&mut self, pair: Pair, terms: Terms)
+        ensures { SetsTerms self.old pair.job pair.place terms self.new }
+    {
+        self.offers[pair.job] = self.offers[pair.job].with(pair.place as usize, terms);
     }
 
     pub fn set_price(&mut self, job: u32, place: u32, amount: u32) -> Result<(), Refusal>
         ensures set { Answered (price_refusal (job_count self.old) (place_count self.old) job place amount) result (λ _. PricedAt self.old job place amount self.new) }
         ensures refused { IfRefused result (self.new ≡ self.old) }
     {
-        if let Some(refusal) = self.price_refusal(job, place, amount) {
-            return Err(refusal);
+        let pair = self.pair(job, place)?;
+        if amount > TOP_PRICE {
+            return Err(Refusal::AmountTooLarge);
         }
-        let offer = self.offers[job as usize];
-        self.offers[job as usize] = offer.with_price(place as usize, amount);
+        let mut terms = self.terms(pair);
+        terms.price = amount;
+        self.set_terms(pair, terms);
         Ok(())
     }
 
@@ -99,49 +91,40 @@ impl Tariff {
         ensures set { Answered (pair_refusal (job_count self.old) (place_count self.old) job place) result (λ _. BarredAt self.old job place barred self.new) }
         ensures refused { IfRefused result (self.new ≡ self.old) }
     {
-        if let Some(refusal) = self.pair_refusal(job, place) {
-            return Err(refusal);
-        }
-        let offer = self.offers[job as usize];
-        self.offers[job as usize] = offer.with_bar(place as usize, barred);
+        let pair = self.pair(job, place)?;
+        let mut terms = self.terms(pair);
+        terms.barred = barred;
+        self.set_terms(pair, terms);
         Ok(())
     }
 
-    // The price of a pair that there is.
-    pub(crate) fn price_at(&self, job: usize, place: usize) -> u32
-        requires job { job < width }
-        requires place { place < most_places }
-        ensures { result ≡ price_of self.now job place }
+    // The price of the pair.
+    pub(crate) fn price_at(&self, pair: Pair) -> u32
+        ensures { result ≡ price_of self.now pair.job pair.place }
     {
-        self.offers[job].price(place)
+        self.terms(pair).price
     }
 
-    // Whether a pair that there is is barred.
-    pub(crate) fn barred_at(&self, job: usize, place: usize) -> bool
-        requires job { job < width }
-        requires place { place < most_places }
-        ensures { result ≡ barred_in self.now job place }
+    // Whether the pair is barred.
+    pub(crate) fn barred_at(&self, pair: Pair) -> bool
+        ensures { result ≡ barred_in self.now pair.job pair.place }
     {
-        self.offers[job].is_barred(place)
+        self.terms(pair).barred
     }
 
     // The price in force for a pair, if there is such a pair.
     pub fn price(&self, job: u32, place: u32) -> Option<u32>
         ensures { result ≡ if_accepted (pair_refusal (job_count self.now) (place_count self.now) job place) (price_of self.now job place) }
     {
-        match self.pair_refusal(job, place) {
-            Some(_) => None,
-            None => Some(self.price_at(job as usize, place as usize)),
-        }
+        let pair = self.pair(job, place).ok()?;
+        Some(self.price_at(pair))
     }
 
     // Whether a pair is barred, if there is such a pair.
     pub fn is_barred(&self, job: u32, place: u32) -> Option<bool>
         ensures { result ≡ if_accepted (pair_refusal (job_count self.now) (place_count self.now) job place) (barred_in self.now job place) }
     {
-        match self.pair_refusal(job, place) {
-            Some(_) => None,
-            None => Some(self.barred_at(job as usize, place as usize)),
-        }
+        let pair = self.pair(job, place).ok()?;
+        Some(self.barred_at(pair))
     }
 }

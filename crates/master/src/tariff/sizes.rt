@@ -7,7 +7,7 @@ ghost use Rattle.master.specs.Tariffs.{Blank, Resized};
 
 use crate::offer::{Offer, PLACES};
 use crate::tariff::Tariff;
-use crate::tariff::calls::size_refusal;
+use crate::tariff::calls::check_sizes;
 use jobs::refusal::Refusal;
 use jobs::set::JOBS;
 
@@ -35,9 +35,7 @@ impl Tariff {
     pub fn sized(&self, jobs: u32, places: u8) -> Result<Tariff, Refusal>
         ensures { Answered (tariff_refusal jobs places) result (Resized self.now jobs places) }
     {
-        if let Some(refusal) = size_refusal(jobs, places) {
-            return Err(refusal);
-        }
+        check_sizes(jobs, places)?;
         Ok(Tariff {
             jobs: jobs as u8,
             places,

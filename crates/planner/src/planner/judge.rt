@@ -1,12 +1,11 @@
 // Judging a proposal.
 ghost use Rattle.std.specs.Prelude.{◌≡◌, ℕ, Some, Ok};
 ghost use Rattle.jobs.specs.Words.{Exactly};
-ghost use Rattle.master.specs.Refused.{IfRefused};
 ghost use Rattle.master.specs.Rows.{row_places};
 ghost use Rattle.planner.specs.Calls.{Judge};
-ghost use Rattle.planner.specs.Laws.{GoesOn};
-ghost use Rattle.planner.specs.Steps.{Step, end_of};
-ghost use Rattle.planner.specs.Views.{state, offer, judging};
+ghost use Rattle.planner.specs.Promises.{Serves};
+ghost use Rattle.planner.specs.Steps.{end_of};
+ghost use Rattle.planner.specs.Views.{offer, judging};
 
 use crate::answers::{Judgement, Plan, Proposal};
 use crate::planner::Planner;
@@ -18,12 +17,11 @@ use workshops::workshop::Workshop;
 
 // The answer of a judgement in the given round.
 fn concluded(outcome: Outcome, proposal: Proposal, round: u16) -> Judgement
-    ensures { judging (Ok result) ≡ end_of (row_places proposal.row) proposal.cost round outcome }
+    ensures { judging (Ok result) ≡ end_of (row_places proposal.priced.row) proposal.priced.cost round outcome }
 {
     match outcome {
         Outcome::Agreed => Judgement::Plan(Plan {
-            row: proposal.row,
-            cost: proposal.cost,
+            priced: proposal.priced,
             round,
         }),
         Outcome::Cut { added } => Judgement::Cut { added },
@@ -38,29 +36,23 @@ fn concluded(outcome: Outcome, proposal: Proposal, round: u16) -> Judgement
 
 impl<W: Workshop, J: Measure> Planner<W, J> {
     // Whether a proposal with the same row and cost is pending.
+    #[tactic(auto, using(crate::proofs::Stepping::pending_eq))]
     fn is_pending(&self, proposal: &Proposal) -> bool
-        ensures { Exactly result (offer self.now.pending ≡ Some (row_places proposal.now.row, proposal.now.cost)) }
+        ensures { Exactly result (offer self.now.pending ≡ Some (row_places proposal.now.priced.row, proposal.now.priced.cost)) }
     {
-        match &self.pending {
-            Some(best) => best.cost == proposal.cost && best.row.same(&proposal.row),
-            None => false,
-        }
+        self.pending == Some(proposal.priced)
     }
 
     // Asks each place about its jobs. A plan if all say yes; what a place refuses becomes a cut.
     pub fn judge(&mut self, proposal: Proposal) -> Result<Judgement, Refusal>
-        ensures step { Step W.Workshop.meaning J.Measure.joins (state self.old) (Judge (row_places proposal.row) proposal.cost) (judging result) (state self.new) }
-        ensures law { GoesOn W.Workshop.meaning J.Measure.joins (state self.old) (Judge (row_places proposal.row) proposal.cost) (judging result) (state self.new) }
-        ensures same { IfRefused result (self.new ≡ self.old) }
+        ensures { Serves W.Workshop.meaning J.Measure.joins self.old (Judge (row_places proposal.priced.row) proposal.priced.cost) (judging result) self.new }
     {
-        if let Some(refusal) = self.idle() {
-            return Err(refusal);
-        }
+        self.check_sizes()?;
         if !self.is_pending(&proposal) {
             return Err(Refusal::NotPending);
         }
         let round = self.round + 1;
-        let outcome = judge_row(&mut self.workshop, &mut self.cuts, &proposal.row)?;
+        let outcome = judge_row(&mut self.workshop, &mut self.cuts, &proposal.priced.row)?;
         self.pending = None;
         self.round = round;
         Ok(concluded(outcome, proposal, round))

@@ -4,7 +4,8 @@ ghost use Rattle.jobs.specs.Sets.{bits};
 ghost use Rattle.jobs.specs.Words.{Exactly};
 ghost use Rattle.workshops.specs.Remembered.{remembered, joined, Settles, Knows, KnownYes, KnownNo, known, Says};
 
-use crate::notes::{Note, Notes, ROOM};
+use crate::notes::{Note, Notes};
+use arrayvec::ArrayVec;
 use jobs::set::JobSet;
 
 impl Note {
@@ -32,13 +33,7 @@ impl Notes {
         ensures { remembered result ≡ [] }
     {
         Notes {
-            notes: [Note {
-                place: 0,
-                set: JobSet::empty(),
-                yes: false,
-            }; ROOM],
-            held: 0,
-            oldest: 0,
+            notes: ArrayVec::new(),
         }
     }
 
@@ -46,12 +41,7 @@ impl Notes {
     pub fn knows(&self, yes: bool, place: u8, set: JobSet) -> bool
         ensures { Exactly result (Knows yes (remembered self.now) place (bits set)) }
     {
-        for i in 0..self.held {
-            if self.notes[i].settles(yes, place, set) {
-                return true;
-            }
-        }
-        false
+        self.notes.iter().any(|note| note.settles(yes, place, set))
     }
 
     // What the remembered verdicts say to the question. A yes comes before a no.
@@ -72,12 +62,9 @@ impl Notes {
     pub fn remember(&mut self, note: Note)
         ensures { remembered self.new ≡ joined (remembered self.old) note }
     {
-        if self.held < ROOM {
-            self.notes[self.held] = note;
-            self.held += 1;
-        } else {
-            self.notes[self.oldest] = note;
-            self.oldest = (self.oldest + 1) % ROOM;
+        if self.notes.is_full() {
+            self.notes.remove(0);
         }
+        self.notes.push(note);
     }
 }

@@ -1,17 +1,16 @@
-use Rattle.std.proofs.Common.{[], ◌∷◌, length, ap, ◌∙◌, arith, length-append}
-use Rattle.facilities.specs.Choices.{chosen}
+use Rattle.std.proofs.Common.{◌∙◌, arith}
 use Rattle.facilities.proofs.Firsts.{one_first}
-use Rattle.facilities.proofs.Turns.{took_down, took_none, given_back, less_down, less_next, less_up, last_within, all_found, none_found}
+use Rattle.facilities.proofs.Turns.{took_down, took_none, given_back, less_down, less_next, less_up, last_within, all_found}
 use Rattle.facilities.proofs.search.first.Goals as goal
 
 pub loop-trial-smaller-then-take : goal.loop-trial-smaller-then-take
-loop-trial-smaller-then-take g c = less_down _ _ _ _ _ _ c.loop-trial.invariant.2 _ (omega arith) c.push.ensures
+loop-trial-smaller-then-take g c = less_down _ _ _ _ _ _ c.loop-trial.invariant.2 _ (omega arith) c.push.ensures.items
 
 pub loop-trial-preserved-then-take : goal.loop-trial-preserved-then-take
 loop-trial-preserved-then-take g c =
     let i = c.loop-trial.invariant in
     let en = c.if-take.ensures in
-    (en.same ∙ i.0, en.sound, took_down g.T.Trial.allowed _ _ _ _ i.0 _ _ _ i.2 _ _ (omega arith) (omega arith) en.took c.push.ensures)
+    (en.same ∙ i.0, en.sound, took_down g.T.Trial.allowed _ _ _ _ i.0 _ _ _ i.2 _ _ (omega arith) (omega arith) en.took c.push.ensures.items)
 
 pub loop-trial-smaller-else-take : goal.loop-trial-smaller-else-take
 loop-trial-smaller-else-take g c = less_next _ _ _ _ _ _ c.loop-trial.invariant.2
@@ -22,22 +21,17 @@ loop-trial-preserved-else-take g c =
     let en = c.if-take.ensures in
     (en.same ∙ i.0, en.sound, took_none g.T.Trial.allowed _ _ _ _ i.0 _ _ _ i.2 (g.met.T.Trial.fronts _) _ (omega arith) en.took)
 
-pub undo-requires : goal.undo-requires
-undo-requires g c =
-    let i = c.loop-trial.invariant in
-    record { sound = i.1; some = omega (arith, ap length (i.2.agrees ∙ c.in-Some.ensures), length-append (chosen c.pop.new.self) (c.in-Some.last ∷ [])) }
-
 pub overflow_add-next-else-next-choices : goal.overflow_add-next-else-next-choices
-overflow_add-next-else-next-choices g c = omega (arith, last_within _ _ _ _ _ _ c.loop-trial.invariant.2 _ _ c.in-Some.ensures)
+overflow_add-next-else-next-choices g c = omega (arith, last_within _ _ _ _ _ _ c.loop-trial.invariant.2 _ _ c.in_ok-last.ensures.items)
 
 pub loop-trial-smaller : goal.loop-trial-smaller
-loop-trial-smaller g c = less_up _ _ _ _ _ _ c.loop-trial.invariant.2 _ _ (omega arith) c.in-Some.ensures
+loop-trial-smaller g c = less_up _ _ _ _ _ _ c.loop-trial.invariant.2 _ _ (omega arith) c.in_ok-last.ensures.items
 
 pub loop-trial-preserved : goal.loop-trial-preserved
 loop-trial-preserved g c =
     let i = c.loop-trial.invariant in
     let en = c.undo.ensures in
-    (en.same ∙ i.0, en.sound, given_back _ _ _ _ _ _ i.2 (g.met.T.Trial.fronts _) _ _ _ (omega arith) (omega arith) c.in-Some.ensures en.gave)
+    (en.same ∙ i.0, en.sound, given_back _ _ _ _ _ _ i.2 (g.met.T.Trial.fronts _) _ _ _ (omega arith) (omega arith) c.in_ok-last.ensures.items en.gave)
 
 pub returns : goal.returns
 returns g c =
@@ -46,19 +40,6 @@ returns g c =
       same = i.0;
       sound = i.1;
       answer = (all_found _ _ _ _ _ _ i.2 _ _ c.depth-levels.ensures.value c.width-choices.ensures.value (omega arith), i.2.agrees);
-      one = one_first _ _ _;
-      levels = omega (arith, c.depth-levels.ensures.value, c.depth-levels.ensures.bound);
-      choices = omega (arith, c.width-choices.ensures.value, c.width-choices.ensures.bound);
-    }
-
-pub returns-in_default : goal.returns-in_default
-returns-in_default g c =
-    let i = c.loop-trial.invariant in
-    let empty = c.in_default.ensures.0 in
-    record {
-      same = i.0;
-      sound = i.1;
-      answer = (none_found _ _ _ _ _ _ i.2 _ _ c.depth-levels.ensures.value c.width-choices.ensures.value (omega arith) (omega arith) empty, i.2.agrees ∙ empty);
       one = one_first _ _ _;
       levels = omega (arith, c.depth-levels.ensures.value, c.depth-levels.ensures.bound);
       choices = omega (arith, c.width-choices.ensures.value, c.width-choices.ensures.bound);

@@ -1,5 +1,4 @@
 use Rattle.std.proofs.Common.{◌≡◌}
-use Rattle.facilities.specs.Choices.{chosen}
 use Rattle.facilities.proofs.Positions.{left}
 use Rattle.facilities.proofs.Turns.{Searched}
 use Rattle.facilities.proofs.search.first.Given as goal
@@ -9,7 +8,7 @@ invariant-loop-trial g l =
     let t = g.T.Trial in
     let p = t.problem l.initial.trial in
     (t.problem l.trial ≡ p) × t.sound l.trial
-    × Searched (t.allowed p) l.levels l.choices (chosen l.found) l.next (t.taken l.trial)
+    × Searched (t.allowed p) l.levels l.choices l.found.items l.next (t.taken l.trial)
 
 abbrev pub decreases-loop-trial : goal.decreases-loop-trial
-decreases-loop-trial g l = left l.choices (chosen l.found) l.levels l.next
+decreases-loop-trial g l = left l.choices l.found.items l.levels l.next

@@ -1,8 +1,6 @@
 // A timetable is a trial: a level for each job of the set, and at each a choice of the hour at which the job starts.
-ghost use Rattle.std.specs.Prelude.{◌≡◌, ◌<◌, [], length, slice_index};
-ghost use Rattle.jobs.specs.Lists.{listed};
+ghost use Rattle.std.specs.Prelude.{◌≡◌, [], length, slice_get, option_and_then};
 ghost use Rattle.jobs.specs.Sets.{bits, jobs_of};
-ghost use Rattle.facilities.specs.Choices.{chosen};
 ghost use Rattle.facilities.specs.Draws.{Overdrawn};
 ghost use Rattle.facilities.specs.Rows.{row, row_list, hours};
 ghost use Rattle.facilities.specs.Timetables.{demand_of, Allowed, Sound};
@@ -10,12 +8,12 @@ ghost use Rattle.facilities.specs.Usages.{table};
 ghost use Rattle.facilities.specs.TimetablesLemmas.{allowed_front};
 ghost use Rattle.std.proofs.Common.{rules};
 
-use crate::choices::Choices;
 use crate::rows::{HOURS, Rows};
 use crate::stand::row::StandRow;
 use crate::stand::timetable::{Demand, Timetable};
 use crate::stand::usage::Usage;
 use crate::trial::Trial;
+use arrayvec::ArrayVec;
 use jobs::set::JobSet;
 
 impl Timetable {
@@ -23,25 +21,23 @@ impl Timetable {
     pub(crate) fn new(supply: u32, rows: Rows<StandRow>, set: JobSet) -> Timetable
         requires { Overdrawn supply (row_list rows) → ⊥ }
         ensures demand { result.demand ≡ demand_of supply rows set }
-        ensures fresh { chosen result.starts ≡ [] }
-        ensures sound { Sound (row_list result.demand.rows) result.demand.supply (jobs_of (bits result.demand.set)) (listed result.jobs) (chosen result.starts) (table result.usage) }
+        ensures fresh { result.starts.items ≡ [] }
+        ensures sound { Sound (row_list result.demand.rows) result.demand.supply (jobs_of (bits result.demand.set)) result.jobs.items result.starts.items (table result.usage) }
     {
         Timetable {
             demand: Demand { supply, rows, set },
             jobs: set.jobs(),
-            starts: Choices::none(),
+            starts: ArrayVec::new(),
             usage: Usage::new(),
         }
     }
 
-    // The row of the job at a level, if it has one.
+    // The row of the job at a level, if there is such a job and it has one.
     fn row_at(&self, level: usize) -> Option<StandRow>
-        requires all { listed self.now.jobs ≡ jobs_of (bits self.now.demand.set) }
-        requires within { level < length (jobs_of (bits self.now.demand.set)) }
-        ensures { result ≡ row (row_list self.now.demand.rows) (slice_index (jobs_of (bits self.now.demand.set)) level) }
+        ensures { result ≡ option_and_then (row (row_list self.now.demand.rows)) (slice_get self.now.jobs.items level) }
     {
         let job = self.jobs.get(level)?;
-        self.demand.rows.get(job)
+        self.demand.rows.get(*job)
     }
 }
 
@@ -50,9 +46,9 @@ impl Trial for Timetable {
 
     ghost problem = { λ t. t.demand };
 
-    ghost taken = { λ t. chosen t.starts };
+    ghost taken = { λ t. t.starts.items };
 
-    ghost sound = { λ t. Sound (row_list t.demand.rows) t.demand.supply (jobs_of (bits t.demand.set)) (listed t.jobs) (chosen t.starts) (table t.usage) };
+    ghost sound = { λ t. Sound (row_list t.demand.rows) t.demand.supply (jobs_of (bits t.demand.set)) t.jobs.items t.starts.items (table t.usage) };
 
     ghost levels = { λ d. length (jobs_of (bits d.set)) };
 

@@ -23,10 +23,9 @@ impl Usage {
         requires { start + row.now.window.takes ≤ hours }
         ensures { Exactly result ((h : ℕ) → start ≤ h → h < start + row.now.window.takes → at (table self.now) h + draw_at row.now (h - start) ≤ supply) }
     {
-        let from = start as usize;
-        for hour in from..row.end(start) {
-            let more = row.draw_at((hour - from) as u16);
-            if self.drawn[hour] as u32 + more as u32 > supply {
+        let hours = &self.drawn[row.hours(start)];
+        for (hour, drawn) in hours.iter().enumerate() {
+            if u32::from(*drawn) + u32::from(row.draw_at(hour)) > supply {
                 return false;
             }
         }
@@ -39,21 +38,21 @@ impl Usage {
         requires room { (h : ℕ) → start ≤ h → h < start + row.now.window.takes → at (table self.old) h + draw_at row.now (h - start) < 2 ^ 16 }
         ensures { (h : ℕ) → h < hours → at (table self.new) h ≡ at (table self.old) h + drawn (draw_at row.now) row.now.window.takes start h }
     {
-        let from = start as usize;
-        for hour in from..row.end(start) {
-            self.drawn[hour] += row.draw_at((hour - from) as u16);
+        let hours = &mut self.drawn[row.hours(start)];
+        for (hour, drawn) in hours.iter_mut().enumerate() {
+            *drawn += row.draw_at(hour);
         }
     }
 
-    // The job's hours are given back.
+    // The job's hours are given back. This stands beside `fill`, since each requires what makes its own sum fit.
     pub(crate) fn free(&mut self, row: &StandRow, start: u16)
         requires within { start + row.now.window.takes ≤ hours }
         requires there { (h : ℕ) → h < hours → drawn (draw_at row.now) row.now.window.takes start h ≤ at (table self.old) h }
         ensures { (h : ℕ) → h < hours → at (table self.new) h + drawn (draw_at row.now) row.now.window.takes start h ≡ at (table self.old) h }
     {
-        let from = start as usize;
-        for hour in from..row.end(start) {
-            self.drawn[hour] -= row.draw_at((hour - from) as u16);
+        let hours = &mut self.drawn[row.hours(start)];
+        for (hour, drawn) in hours.iter_mut().enumerate() {
+            *drawn -= row.draw_at(hour);
         }
     }
 }

@@ -1,4 +1,3 @@
-use Rattle.std.proofs.Common.{rules}
 use Rattle.master.specs.Tables.{held}
 use Rattle.master.specs.Tariffs.{job_count, place_count, price_of, barred_in}
 use Rattle.master.proofs.Searching.{one_best}
@@ -13,10 +12,7 @@ returns-then-not-allows_start g c =
       only = one_best (job_count t) (place_count t) (g.M.Measure.joins c.args.measure.now) (price_of t) (barred_in t) (held c.args.cuts.now);
     }
 
-pub returns : goal.returns
-returns g c =
+pub returns-clause-only : goal.returns-clause-only
+returns-clause-only g c =
     let t = c.args.tariff.now in
-    record {
-      found = search rules;
-      only = one_best (job_count t) (place_count t) (g.M.Measure.joins c.args.measure.now) (price_of t) (barred_in t) (held c.args.cuts.now);
-    }
+    one_best (job_count t) (place_count t) (g.M.Measure.joins c.args.measure.now) (price_of t) (barred_in t) (held c.args.cuts.now)

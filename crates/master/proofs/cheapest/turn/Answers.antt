@@ -2,7 +2,7 @@ use Rattle.std.proofs.Common.{◌≡◌, ℕ, ◌<◌, get_or, subst, arith}
 use Rattle.master.specs.Tariffs.{price_of}
 use Rattle.master.specs.Walks.{next_place, Takes}
 use Rattle.master.proofs.Climbing.{Climbs, climbs}
-use Rattle.master.proofs.Turning.{sized, last_below, turn_over, turn_back, turn_skip, turn_deepen, turn_take}
+use Rattle.master.proofs.Turning.{last_below, turn_over, turn_back, turn_skip, turn_deepen, turn_take}
 use Rattle.master.proofs.cheapest.turn.Given as given
 use Rattle.master.proofs.cheapest.turn.Goals as goal
 
@@ -17,7 +17,6 @@ back-requires g c =
     let t = c.args.tariff.now in
     let some : 0 < c.args.walk.now.depth = omega arith in
     record {
-      sized = sized _ t c.args.cuts.now c.args.walk.now c.requires;
       place = omega (arith, last_below _ t c.args.cuts.now c.args.walk.now c.requires some, t.few_places);
       begun = some;
     }
@@ -48,4 +47,4 @@ returns g c =
     let total : c.join-total.result ≡ joined (get_or w.totals w.depth 0) (price_of c.args.tariff.now w.depth (next_place w)) = cc in
     turn_take joined c.args.tariff.now c.args.cuts.now w c.requires c.take.new.self c.join-total.result
     total (omega arith) (omega (arith, c.requires.deep)) c.if-not-is_worth.ensures
-    (subst (λ (n : ℕ). Takes w n c.join-total.result c.take.new.self) c.jobs-2.ensures c.take.ensures)
+    (subst (λ (n : ℕ). Takes w w.depth (next_place w) n c.join-total.result c.take.new.self) c.jobs-2.ensures c.take.ensures)

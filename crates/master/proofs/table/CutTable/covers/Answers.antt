@@ -1,25 +1,14 @@
-use Rattle.std.proofs.Common.{List, get_or, subst, rules}
-use Rattle.master.specs.Cuts.{Within, Covers}
+use Rattle.std.proofs.Common.{rules}
+use borrow.Author.Tests.{tests}
+use Rattle.std.proofs.lemmas.Iterator.{YieldsList-from_slice, cases_from_any}
+use Rattle.master.specs.Cuts.{Within}
 use Rattle.master.specs.Tables.{held}
-use Rattle.master.specs.declared.cut.Cut.{Cut}
-use Rattle.master.proofs.Adding.{no_cut, not_covered, covered_at}
-use Rattle.master.proofs.Breaking.{looked_more, looked_all}
+use Rattle.master.proofs.Adding.{covered_found}
 use Rattle.master.proofs.table.CutTable.covers.Goals as goal
-
-pub loop-cut-preserved : goal.loop-cut-preserved
-loop-cut-preserved c =
-    let out : Within (get_or c.held-cut-items.result.now c.loop-cut.cut-index no_cut) c.args.new → ⊥ = search rules in
-    looked_more (λ d. Within d c.args.new → ⊥) c.held-cut-items.result.now (held c.args.self.now) c.held-cut-items.ensures c.loop-cut.cut-index
-    c.loop-cut-test.true out c.loop-cut.invariant
-
-pub returns-then-lies_within : goal.returns-then-lies_within
-returns-then-lies_within c =
-    let found : Within (get_or c.held-cut-items.result.now c.loop-cut.cut-index no_cut) c.args.new = search rules in
-    subst (λ (cs : List Cut). Covers c.args.new cs) c.held-cut-items.ensures
-    (covered_at c.args.new c.held-cut-items.result.now c.loop-cut.cut-index c.loop-cut-test.true found)
 
 pub returns : goal.returns
 returns c =
-    not_covered c.args.new (held c.args.self.now)
-    (looked_all (λ d. Within d c.args.new → ⊥) c.held-cut-items.result.now (held c.args.self.now) c.held-cut-items.ensures c.loop-cut.cut-index
-    c.loop-cut-test.false c.loop-cut.invariant)
+    let new = c.args.new in
+    let cuts = held c.args.self.now in
+    covered_found new cuts c.any.result
+    (cases_from_any _ _ c.any.result (λ d. Within d new) (λ d. Within d new → ⊥) c.any.ensures.ran (YieldsList-from_slice cuts cc) (λ x q k. search (rules, tests)) (λ x q k. search (rules, tests)))

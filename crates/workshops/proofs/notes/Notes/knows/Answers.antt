@@ -1,29 +1,29 @@
-use Rattle.std.proofs.Common.{◌≡◌, length, take, subst, arith}
+use Rattle.std.proofs.Common.{ℕ, zero, suc, ◌<◌, Bool, true, false, List, [], ◌∷◌, length, MatchBool, inl, inr, ⊎_elim, arith, rules, tests}
+use Rattle.std.specs.List.{HoldsAt, AllWithin}
+use Rattle.std.proofs.lemmas.Iterator.{cases_from_any, YieldsList-from_slice}
 use Rattle.jobs.specs.Sets.{bits}
-use Rattle.workshops.specs.Remembered.{Knows}
-use Rattle.workshops.specs.KnownFacts.{knows_ring, knows_within, knows_more}
+use Rattle.jobs.specs.Words.{Exactly}
+use Rattle.workshops.specs.Remembered.{remembered, Settles, Knows}
+use Rattle.workshops.specs.declared.notes.Note.{Note}
 use Rattle.workshops.proofs.notes.Notes.knows.Goals as goal
 
-pub loop-i-init : goal.loop-i-init
-loop-i-init c = (omega arith, λ h. h)
+module _ (y : Bool) (p s : ℕ) where
+  knows_at : (l : List Note) (k : ℕ) → k < length l → HoldsAt (Settles y p s) l k → Knows y l p s
+  knows_at [] k m h = absurd (omega arith)
+  knows_at (n ∷ l) zero m h = inl (h n)
+  knows_at (n ∷ l) (suc k) m h = inr (knows_at l k (omega arith) h)
 
-pub returns-then-settles : goal.returns-then-settles
-returns-then-settles c =
-    let self = c.args.self.now in
-    let long : length self.notes ≡ 64 = omega arith in
-    (knows_ring c.args.place (bits c.args.set) c.args.yes self.notes self.held self.oldest long self.ring.2
-    ).1 (knows_within c.args.place (bits c.args.set) c.args.yes self.notes self.held c.loop-i.i _ (omega arith) (omega arith) c.if-settles.ensures)
+  knows_not : (l : List Note) → AllWithin (λ n. Settles y p s n → ⊥) l 0 (length l) → Knows y l p s → ⊥
+  knows_not [] h k = k
+  knows_not (n ∷ l) h k = ⊎_elim (h 0 n (omega arith) (omega arith)) (knows_not l (λ i d a b. h (suc i) d (omega arith) (omega arith))) k
 
-pub loop-i-preserved : goal.loop-i-preserved
-loop-i-preserved c =
-    let self = c.args.self.now in
-    let long : length self.notes ≡ 64 = omega arith in
-    (omega arith, knows_more c.args.place (bits c.args.set) c.args.yes self.notes c.loop-i.i _ (omega arith) c.loop-i.invariant.1 c.if-settles.ensures)
+  found : (l : List Note) (r : Bool) → MatchBool r ((k : ℕ) × (k < length l) × HoldsAt (Settles y p s) l k) (AllWithin (λ n. Settles y p s n → ⊥) l 0 (length l)) → Exactly r (Knows y l p s)
+  found l true h = knows_at l h.0 h.1 h.2
+  found l false h = knows_not l h
 
 pub returns : goal.returns
-returns c h =
-    let self = c.args.self.now in
-    let long : length self.notes ≡ 64 = omega arith in
-    let end : self.held ≡ c.loop-i.i = omega arith in
-    let all = (knows_ring c.args.place (bits c.args.set) c.args.yes self.notes self.held self.oldest long self.ring.2).0 h in
-    c.loop-i.invariant.1 (subst (λ n. Knows c.args.yes (take n self.notes) c.args.place (bits c.args.set)) end all)
+returns c =
+    let notes = remembered c.args.self.now in
+    let Says = Settles c.args.yes c.args.place (bits c.args.set) in
+    found c.args.yes c.args.place (bits c.args.set) notes _
+    (cases_from_any _ _ _ Says (λ n. Says n → ⊥) c.any.ensures.ran (YieldsList-from_slice notes cc) (λ x q k. search (rules, tests)) (λ x q k. search (rules, tests)))

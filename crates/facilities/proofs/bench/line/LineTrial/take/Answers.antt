@@ -1,26 +1,33 @@
-use Rattle.std.proofs.Common.{◌<◌, length, refl, arith}
+use Rattle.std.proofs.Common.{[], ◌∷◌, sym, refl, ap, ◌∙◌, subst, arith}
+use Rattle.std.proofs.lemmas.List.{map-append, length-map}
 use Rattle.jobs.specs.Sets.{bits}
-use Rattle.jobs.proofs.Lists.{few_jobs}
-use Rattle.facilities.specs.LinesLemmas.{none_after, lined_after, pushed}
+use Rattle.facilities.specs.Counts.{few_jobs}
+use Rattle.facilities.specs.Lines.{Later, chosen, Leads, morning}
+use Rattle.facilities.specs.LinesLemmas.{leads_on, lined_on, lined_last}
+use Rattle.facilities.specs.Rows.{row_list}
 use Rattle.facilities.proofs.bench.line.LineTrial.take.Goals as goal
 
-pub returns-in_default : goal.returns-in_default
-returns-in_default c = let s = c.requires.sound in record { same = refl; sound = s; took = (none_after _ _ _ _ _ s _ c.in_default.ensures, refl) }
-
-pub bounds-self-len : goal.bounds-self-len
-bounds-self-len c = omega (arith, c.requires.room, few_jobs (bits c.args.self.now.batch.set))
+pub returns-in_default-clause-took : goal.returns-in_default-clause-took
+returns-in_default-clause-took c =
+    let l = c.args.self.now in
+    let out = rw c.from.ensures at c.in_default.ensures in
+    (λ lined. out (lined_last (row_list l.batch.rows) (morning l.batch.set) l.steps.items l.at c.args.choice c.requires.sound lined), refl)
 
 pub push-requires : goal.push-requires
-push-requires c = omega (arith, c.requires.room, few_jobs (bits c.args.self.now.batch.set))
+push-requires c =
+    let l = c.args.self.now in
+    omega (arith, c.requires.room, few_jobs (bits l.batch.set), length-map l.steps.items (λ s. s.job))
 
 pub returns : goal.returns
 returns c =
-    let s = c.requires.sound in
-    let o = c.args.self.now in
-    let later = c.in-Some.ensures in
-    let room : c.len.result < length o.past = omega (arith, c.requires.room, few_jobs (bits o.batch.set)) in
+    let l = c.args.self.now in
+    let rows = row_list l.batch.rows in
+    let first = morning l.batch.set in
+    let ss = l.steps.items in
+    let x = c.args.choice in
+    let later = subst (λ j. Later rows l.at j c.in-Some.next) c.from.ensures c.in-Some.ensures in
     record {
       same = refl;
-      sound = pushed _ _ _ _ _ s c.args.choice _ later c.len.result c.len.ensures.value room _ c.push.ensures;
-      took = (lined_after _ _ _ _ _ s _ later.can, c.push.ensures);
+      sound = subst (λ ts. Leads rows first ts c.in-Some.next) (sym c.push.ensures.items) (leads_on rows first ss l.at x c.in-Some.next c.requires.sound later);
+      took = (lined_on rows first ss l.at x c.requires.sound later.can, ap chosen c.push.ensures.items ∙ map-append (λ s. s.job) ss (record { job = x; before = l.at } ∷ []));
     }

@@ -1,17 +1,12 @@
-use Rattle.std.proofs.Common.{[], ◌∷◌, length, refl, ap, arith, length-append, length-take}
-use Rattle.facilities.specs.Choices.{chosen}
-use Rattle.facilities.proofs.Fronts.{popped_some}
-use Rattle.facilities.specs.LinesLemmas.{popped}
+use Rattle.std.proofs.Common.{subst}
+use Rattle.facilities.specs.Lines.{Leads, morning}
+use Rattle.facilities.specs.LinesLemmas.{leads_back}
+use Rattle.facilities.specs.Rows.{row_list}
 use Rattle.facilities.proofs.bench.line.LineTrial.undo.Goals as goal
 
-pub bounds-self-len : goal.bounds-self-len
-bounds-self-len c =
-    let o = c.args.self.now.order in
-    let gave = popped_some (chosen o) c.pop.result (chosen c.pop.new.self) c.pop.ensures c.requires.some in
-    omega (arith, ap length gave.1, length-append (chosen c.pop.new.self) (gave.0 ∷ []), length-take o.len o.taken, o.ok, c.len.ensures.value)
-
-pub returns : goal.returns
-returns c =
-    let o = c.args.self.now.order in
-    let gave = popped_some (chosen o) c.pop.result (chosen c.pop.new.self) c.pop.ensures c.requires.some in
-    record { same = refl; sound = popped _ _ _ _ _ c.requires.sound _ gave.0 c.len.result gave.1 c.len.ensures.value; gave = gave }
+pub returns-clause-sound : goal.returns-clause-sound
+returns-clause-sound c =
+    let l = c.args.self.now in
+    let rows = row_list l.batch.rows in
+    let first = morning l.batch.set in
+    leads_back rows first c.pop.new.self.items c.in-Some.step l.at (subst (λ ss. Leads rows first ss l.at) c.in-Some.ensures.items c.requires.sound)

@@ -1,11 +1,10 @@
-use Rattle.std.proofs.Common.{◌≡◌, ℕ, ◌+◌, ◌-◌, ◌<◌, ◌≤◌, ◌⊎◌, length}
+use Rattle.std.proofs.Common.{◌≡◌, ℕ, ◌+◌, ◌<◌, ◌≤◌}
 use Rattle.facilities.specs.Draws.{draw_at}
-use Rattle.facilities.specs.Rows.{hours}
-use Rattle.facilities.specs.Usages.{table, at}
+use Rattle.facilities.specs.Usages.{at}
 use Rattle.facilities.proofs.stand.usage.Usage.fill.Given as goal
 
 abbrev pub invariant-loop-hour : goal.invariant-loop-hour
-invariant-loop-hour l =
-    (length (table l.self) ≡ hours)
-    × ((k : ℕ) → l.from ≤ k → k < l.hour → at (table l.self) k ≡ at (table l.initial.self) k + draw_at l.row (k - l.from))
-    × ((k : ℕ) → (k < l.from) ⊎ (l.hour ≤ k) → at (table l.self) k ≡ at (table l.initial.self) k)
+invariant-loop-hour l = record {
+  filled : (k : ℕ) → k < l.hour → at l.hours k ≡ at l.initial.hours k + draw_at l.row k;
+  rest : (k : ℕ) → l.hour ≤ k → at l.hours k ≡ at l.initial.hours k;
+}

@@ -1,7 +1,0 @@
-use Rattle.std.proofs.Common.{[], take}
-use Rattle.master.specs.Cuts.{Obeys}
-use Rattle.master.specs.Tables.{held}
-use Rattle.master.proofs.table.CutTable.allows_start.Given as goal
-
-abbrev pub invariant-loop-cut : goal.invariant-loop-cut
-invariant-loop-cut l = Obeys [] (take l.cut-index (held l.self))
