@@ -4,6 +4,6 @@ use Rattle.jobs.specs.declared.refusal.Refusal.{Refusal}
 use Rattle.jobs.specs.Refusals.{number}
 
 -- the number of the refusal, if there is one
-abbrev pub refused_with : Result (Unit {0}) Refusal → Option ℕ
-refused_with (Ok u) = None
+abbrev pub refused_with : {T : Type 0} → Result T Refusal → Option ℕ
+refused_with (Ok v) = None
 refused_with (Err e) = Some (number e)

@@ -9,6 +9,8 @@ use std::test::Fail;
 
 const MOST: u32 = 4294967295;
 
+// The published numbers of refusals are what is tested.
+
 // Job, from, for, by, and the number of the refusal, if the row is refused.
 const BENCH_ROWS: [(u32, u32, u32, u32, Option<u8>); 17] = [
     (0, 0, 1, 240, None),

@@ -10,28 +10,23 @@ use std::test::Fail;
 // Two jobs that exclude each other on a bench, and a third that fits beside both.
 const RIVALS: [[u32; 3]; 3] = [[0, 3, 5], [0, 3, 5], [10, 1, 12]];
 
-fn bench_fits(rows: &[[u32; 3]], jobs: &[u32]) -> Result<bool, Refusal> {
-    Ok(bench_of(rows)?.verdict(set_of(jobs)?))
-}
-
-fn stand_fits(supply: u32, rows: &[[u32; 4]], jobs: &[u32]) -> Result<bool, Refusal> {
-    Ok(stand_of(supply, rows)?.verdict(set_of(jobs)?))
+fn fits<F: Facility + Drop>(facility: F, jobs: &[u32]) -> Result<bool, Refusal> {
+    Ok(facility.verdict(set_of(jobs)?))
 }
 
 fn fits_beside(booked: &[u32], jobs: &[u32]) -> Result<bool, Refusal> {
-    let standing = Standing::new(bench_of(&RIVALS)?, set_of(booked)?);
-    Ok(standing.verdict(set_of(jobs)?))
+    fits(Standing::new(bench_of(&RIVALS)?, set_of(booked)?), jobs)
 }
 
 #[test]
 fn bench_examples(rt: HostRuntime) -> Result<(), Fail> {
-    assert_eq!(rt; bench_fits(&[[0, 3, 5], [0, 3, 6]], &[0, 1])?, true);
-    assert_eq!(rt; bench_fits(&RIVALS, &[0])?, true);
-    assert_eq!(rt; bench_fits(&RIVALS, &[1])?, true);
-    assert_eq!(rt; bench_fits(&RIVALS, &[0, 1])?, false);
-    assert_eq!(rt; bench_fits(&RIVALS, &[0, 2])?, true);
+    assert_eq!(rt; fits(bench_of(&[[0, 3, 5], [0, 3, 6]])?, &[0, 1])?, true);
+    assert_eq!(rt; fits(bench_of(&RIVALS)?, &[0])?, true);
+    assert_eq!(rt; fits(bench_of(&RIVALS)?, &[1])?, true);
+    assert_eq!(rt; fits(bench_of(&RIVALS)?, &[0, 1])?, false);
+    assert_eq!(rt; fits(bench_of(&RIVALS)?, &[0, 2])?, true);
     assert_eq!(rt;
-        bench_fits(&[[0, 4, 10], [1, 1, 2]], &[0, 1])?,
+        fits(bench_of(&[[0, 4, 10], [1, 1, 2]])?, &[0, 1])?,
         true,
         "hour 0 is idle"
     );
@@ -40,20 +35,20 @@ fn bench_examples(rt: HostRuntime) -> Result<(), Fail> {
 
 #[test]
 fn absent_rows(rt: HostRuntime) -> Result<(), Fail> {
-    assert_eq!(rt; bench_fits(&RIVALS, &[])?, true);
-    assert_eq!(rt; bench_fits(&RIVALS, &[3])?, false);
-    assert_eq!(rt; stand_fits(4, &[[0, 2, 2, 2]], &[])?, true);
-    assert_eq!(rt; stand_fits(4, &[[0, 2, 2, 2]], &[0, 1])?, false);
+    assert_eq!(rt; fits(bench_of(&RIVALS)?, &[])?, true);
+    assert_eq!(rt; fits(bench_of(&RIVALS)?, &[3])?, false);
+    assert_eq!(rt; fits(stand_of(4, &[[0, 2, 2, 2]])?, &[])?, true);
+    assert_eq!(rt; fits(stand_of(4, &[[0, 2, 2, 2]])?, &[0, 1])?, false);
     Ok(())
 }
 
 #[test]
 fn stand_examples(rt: HostRuntime) -> Result<(), Fail> {
     let rows = [[0, 2, 2, 2], [0, 2, 2, 2], [0, 2, 2, 1]];
-    assert_eq!(rt; stand_fits(4, &rows, &[0, 1])?, true);
-    assert_eq!(rt; stand_fits(4, &rows, &[0, 2])?, true);
-    assert_eq!(rt; stand_fits(4, &rows, &[0, 1, 2])?, false);
-    assert_eq!(rt; stand_fits(5, &rows, &[0, 1, 2])?, true);
+    assert_eq!(rt; fits(stand_of(4, &rows)?, &[0, 1])?, true);
+    assert_eq!(rt; fits(stand_of(4, &rows)?, &[0, 2])?, true);
+    assert_eq!(rt; fits(stand_of(4, &rows)?, &[0, 1, 2])?, false);
+    assert_eq!(rt; fits(stand_of(5, &rows)?, &[0, 1, 2])?, true);
     Ok(())
 }
 

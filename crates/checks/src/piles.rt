@@ -15,15 +15,7 @@ use workshops::reply::{Fault, Reply, SPENT};
 use workshops::workshop::Workshop;
 
 // Seven jobs that all fit beside one another.
-const EASY: [[u32; 3]; 7] = [
-    [0, 1, 240],
-    [0, 1, 240],
-    [0, 1, 240],
-    [0, 1, 240],
-    [0, 1, 240],
-    [0, 1, 240],
-    [0, 1, 240],
-];
+const EASY: [[u32; 3]; 7] = [[0, 1, 240]; 7];
 
 fn stop(cause: u8, depth: u8, place: u8, set: JobSet) -> Reply {
     Err(Fault {
@@ -37,12 +29,10 @@ fn stop(cause: u8, depth: u8, place: u8, set: JobSet) -> Reply {
 // The set with this number.
 fn numbered(number: u32) -> Result<JobSet, Refusal> {
     let mut set = JobSet::empty();
-    let mut rest = number;
     for job in 0..7u32 {
-        if rest % 2 == 1 {
+        if (number >> job) % 2 == 1 {
             set = set.with(job)?;
         }
-        rest /= 2;
     }
     Ok(set)
 }

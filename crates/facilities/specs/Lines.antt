@@ -5,12 +5,11 @@ use Rattle.jobs.specs.declared.set.JobSet.{JobSet}
 use Rattle.facilities.specs.declared.bench.line.Batch.{Batch}
 use Rattle.facilities.specs.declared.bench.line.Moment.{Moment}
 use Rattle.facilities.specs.declared.bench.line.Step.{Step}
-use Rattle.facilities.specs.declared.bench.line.Line.{Line}
 use Rattle.facilities.specs.declared.rows.Rows.{Rows}
 use Rattle.facilities.specs.declared.rows.Window.{Window}
 use Rattle.facilities.specs.Benches.{MayStart}
 use Rattle.facilities.specs.Orders.{earliest, end_from}
-use Rattle.facilities.specs.Rows.{row, row_list}
+use Rattle.facilities.specs.Rows.{row}
 
 -- these jobs on a bench with these rows
 abbrev pub batch_of : Rows Window → JobSet → Batch
@@ -48,6 +47,3 @@ Leads rows m (s ∷ ss) n = (k : Moment) × (s.before ≡ m) × Later rows m s.j
 -- the day's first moment: no job of the set has run
 abbrev pub morning : JobSet → Moment
 morning set = record { left = set; hour = 0 }
-
-abbrev pub Sound : Line → Type 0
-Sound l = Leads (row_list l.batch.rows) (morning l.batch.set) l.steps.items l.at

@@ -1,5 +1,6 @@
 -- What a timetable holds as it grows by one hour and gives one back.
 use Rattle.std.specs.Prelude.{◌≡◌, ℕ, ◌+◌, ◌-◌, ◌^◌, ◌<◌, ◌≤◌, List, [], ◌∷◌, ◌++◌, length, replicate, Some, None, Option, slice_index, slice_get, option_and_then}
+use Rattle.std.specs.Coded.{×_prop, Unit-prop, le_prop, Coded-set, coded_ℕ, coded_list}
 use Rattle.std.proofs.Common.{sym, ap, subst, ◌∙◌, ⊎_elim, arith}
 use Rattle.std.proofs.lemmas.Bool.{cases_lt}
 use Rattle.std.proofs.lemmas.Option.{slice_get-get_or}
@@ -8,6 +9,7 @@ use Rattle.facilities.specs.declared.stand.row.StandRow.{StandRow}
 use Rattle.facilities.specs.Draws.{draw_at, draws, drawn, Overdrawn}
 use Rattle.facilities.specs.Rows.{row, hours, Fits}
 use Rattle.facilities.specs.Stands.{MayStart}
+use Rattle.facilities.specs.Levels.{Given}
 use Rattle.facilities.specs.Timetables.{Allowed, Sound, used}
 use Rattle.facilities.specs.Usages.{at}
 use Rattle.facilities.specs.Drawing.{drawn_inside, drawn_outside, hour_cases}
@@ -126,3 +128,31 @@ fresh rows supply js listed xs table fed all none zeros = record {
   stands = subst (Allowed rows supply js) (sym none) (record { timed = tt; supplied = λ h day. omega arith });
   filled = λ h day. subst (λ zs. at table h ≡ used rows js zs h) (sym none) (ap (λ t. at t h) zeros ∙ get_or-replicate hours h 0 0 day);
 }
+
+-- that a timetable is sound has one proof at most
+empty_prop : IsProp ⊥
+empty_prop a b = absurd a
+
+may_start_prop : (o : Option StandRow) (x : ℕ) → IsProp (MayStart o x)
+may_start_prop None x = λ a b. absurd a
+may_start_prop (Some r) x = ×_prop le_prop le_prop
+
+given_prop : (fit : ℕ → ℕ → Type 0) → ((j x : ℕ) → IsProp (fit j x)) → (js xs : List ℕ) → IsProp (Given fit js xs)
+given_prop fit prop js [] = Unit-prop
+given_prop fit prop [] (x ∷ xs) = λ a b. absurd a
+given_prop fit prop (j ∷ js) (x ∷ xs) = ×_prop (prop j x) (given_prop fit prop js xs)
+
+module _ (rows : List (Option StandRow)) (supply : ℕ) (js : List ℕ) where
+  allowed_prop : (xs : List ℕ) → IsProp (Allowed rows supply js xs)
+  allowed_prop xs a b = λ i. record {
+    timed = given_prop (λ j x. MayStart (row rows j) x) (λ j x. may_start_prop (row rows j) x) js xs a.timed b.timed i;
+    supplied = λ h day. le_prop (a.supplied h day) (b.supplied h day) i;
+  }
+
+  pub sound_prop : (listed xs table : List ℕ) → IsProp (Sound rows supply js listed xs table)
+  sound_prop listed xs table a b = λ i. record {
+    all = Coded-set (coded_list coded_ℕ) listed js a.all b.all i;
+    fed = λ o. empty_prop (a.fed o) (b.fed o) i;
+    stands = allowed_prop xs a.stands b.stands i;
+    filled = λ h day. Coded-set coded_ℕ _ _ (a.filled h day) (b.filled h day) i;
+  }

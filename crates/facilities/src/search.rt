@@ -9,10 +9,8 @@ use jobs::set::JOBS;
 
 // The first allowed list of full length, if there is one. The trial is left with the choices of that list, or with none.
 pub(crate) fn first<T: Trial>(trial: &mut T) -> Option<ArrayVec<u16, JOBS>>
-    requires sound { T.Trial.sound trial.old }
     requires fresh { T.Trial.taken trial.old ≡ [] }
     ensures same { T.Trial.problem trial.new ≡ T.Trial.problem trial.old }
-    ensures sound { T.Trial.sound trial.new }
     ensures answer { Answers T.Trial (T.Trial.problem trial.old) result (T.Trial.taken trial.new) }
     ensures one { OneFirst T.Trial (T.Trial.problem trial.old) }
     ensures levels { T.Trial.levels (T.Trial.problem trial.old) ≤ most_levels }
@@ -20,6 +18,7 @@ pub(crate) fn first<T: Trial>(trial: &mut T) -> Option<ArrayVec<u16, JOBS>>
 {
     let levels = trial.depth();
     let choices = trial.width();
+    // The trial's own list is known to proofs alone.
     let mut found = ArrayVec::new();
     let mut next = 0u16;
     while found.len() < levels {

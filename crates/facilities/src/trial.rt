@@ -11,9 +11,6 @@ pub(crate) trait Trial {
     // The choices taken so far, in order.
     ghost taken: { Self → List ℕ };
 
-    // What the trial keeps true of its own tables.
-    ghost sound: { Self → Type 0 };
-
     // A problem has `levels` choices to make, each one of `choices`, and says which lists of them are allowed.
     ghost levels: { Self.Problem → ℕ };
 
@@ -22,30 +19,24 @@ pub(crate) trait Trial {
     ghost allowed: { Self.Problem → List ℕ → Type 0 };
 
     fn depth(&self) -> usize
-        requires { sound self.now }
         ensures value { result ≡ levels (problem self.now) }
         ensures bound { result ≤ most_levels };
 
     fn width(&self) -> u16
-        requires { sound self.now }
         ensures value { result ≡ choices (problem self.now) }
         ensures bound { result ≤ most_choices };
 
     // Takes the choice, or leaves everything as it is where the longer list is not allowed.
     fn take(&mut self, choice: u16) -> bool
-        requires sound { sound self.old }
         requires room { length (taken self.old) < levels (problem self.old) }
         requires within { choice < choices (problem self.old) }
         ensures same { problem self.new ≡ problem self.old }
-        ensures sound { sound self.new }
         ensures took { Took (allowed (problem self.old)) (taken self.old) choice result (taken self.new) };
 
     // Gives the last choice back.
     fn undo(&mut self)
-        requires sound { sound self.old }
         requires some { 0 < length (taken self.old) }
         ensures same { problem self.new ≡ problem self.old }
-        ensures sound { sound self.new }
         ensures gave { Gave (taken self.old) (taken self.new) };
 
     ghost none: { (p : Self.Problem) → allowed p [] };

@@ -26,7 +26,7 @@ fn counted(addition: Addition) -> u16
     u16::from(addition == Addition::Put)
 }
 
-// Puts its jobs to a place, also where it has none.
+// Puts its jobs to a place, also where it has none. Workshop, table and row come as `judge_row` is given them.
 fn judge_place<W: Workshop>(workshop: &mut W, cuts: &mut CutTable, row: &Row, place: u8) -> Turn
     requires within { place < W.Workshop.meaning.count workshop.old }
     requires few { place < most_places }

@@ -83,7 +83,8 @@ impl<'a, W: Workshop> Place<'a, W> {
     }
 }
 
-// Puts the set to a place that there is. The place by reference is made here alone.
+// Puts the set to a place that there is. The place by reference is made here alone: where a public call makes it, the
+// goals about the borrow's last value do not close.
 pub(crate) fn turn<W: Workshop>(
     workshop: &mut W,
     cuts: &mut CutTable,

@@ -22,7 +22,7 @@ cut_of place set = record { place = place; set = set }
 abbrev pub Breaks : List ℕ → Cut → Type 0
 Breaks row c = (job : ℕ) → Has (bits c.set) job → Gives row job c.place
 
--- the row breaks none of the cuts
+-- the row breaks none of the cuts (by recursion over the list, as the crates above read it)
 abbrev pub Obeys : List ℕ → List Cut → Type 0
 Obeys row cuts = AllByRecursion (λ c. Breaks row c → ⊥) cuts
 

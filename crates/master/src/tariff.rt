@@ -1,4 +1,5 @@
-// The prices in force and the barred pairs, for so many jobs and places.
+// The prices in force and the barred pairs, for so many jobs and places. Offers past these keep what was set, for other
+// numbers of jobs and places.
 ghost use Rattle.std.specs.Prelude.{◌≡◌, ℕ, ◌≤◌, length};
 ghost use Rattle.jobs.specs.Sets.{width};
 ghost use Rattle.master.specs.Refused.{most_places};

@@ -1,5 +1,6 @@
 // The worked run to its end, and where it stops with one answer less.
 use crate::setup::{calls, judge, price};
+use checks::answers::number_of;
 use jobs::refusal::Refusal;
 use master::measure::Sum;
 use planner::answers::Judgement;
@@ -8,14 +9,6 @@ use planner::pile::run_on_pile;
 use planner::run::{Answer, Call};
 use std::test::Fail;
 use worked_run::{bench, stand};
-
-// The number of the refusal, if there is one.
-fn number_of<T: Drop>(answer: Result<T, Refusal>) -> Option<u8> {
-    match answer {
-        Ok(_) => None,
-        Err(refusal) => Some(refusal.number()),
-    }
-}
 
 // How the last call was refused, if it was.
 fn ending(last: Option<Answer>) -> Result<Option<u8>, Fail> {
@@ -36,10 +29,7 @@ fn judgement(last: Option<Answer>) -> Result<Judgement, Fail> {
     let Answer::Judging(judging) = answer else {
         return Err(Fail::new("no judgement"));
     };
-    match judging {
-        Ok(judgement) => Ok(judgement),
-        Err(_) => Err(Fail::new("refused")),
-    }
+    judging.map_err(|_| Fail::new("refused"))
 }
 
 #[test]

@@ -15,7 +15,7 @@ pub trait Workshop {
     fn count(&self) -> u8
         ensures { result ≡ meaning.count self.now };
 
-    // Whether the place can schedule the set.
+    // Whether the place can schedule the set. Place and set are two numbers wherever they go, as in this published call.
     fn verdict(&mut self, place: u8, set: JobSet) -> Result<Reply, Refusal>
         ensures { Verdict meaning self.old place set result self.new };
 

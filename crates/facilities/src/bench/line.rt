@@ -1,9 +1,9 @@
 // A line of jobs on the bench, which grows by the next job to run.
 ghost use Rattle.std.specs.Prelude.{◌≡◌, [], length};
 ghost use Rattle.jobs.specs.Sets.{width, bits, jobs_of};
-ghost use Rattle.facilities.specs.Lines.{batch_of, Lined, After, chosen, Sound};
+ghost use Rattle.facilities.specs.Lines.{batch_of, Lined, After, Leads, chosen, morning};
 ghost use Rattle.facilities.specs.Rows.{row_list};
-ghost use Rattle.facilities.specs.LinesLemmas.{lined_front};
+ghost use Rattle.facilities.specs.LinesLemmas.{lined_front, leads_prop};
 ghost use Rattle.std.proofs.Common.{rules};
 
 use crate::rows::{Rows, Window};
@@ -38,6 +38,7 @@ pub(crate) struct Line {
     batch: Batch,
     steps: ArrayVec<Step, JOBS>,
     at: Moment,
+    ghost leads: { Leads (row_list batch.rows) (morning batch.set) steps.items at } by { leads_prop (row_list batch.rows) (morning batch.set) steps.items at },
 }
 
 impl Moment {
@@ -59,7 +60,6 @@ impl Line {
     pub(crate) fn new(rows: Rows<Window>, set: JobSet) -> Line
         ensures batch { result.batch ≡ batch_of rows set }
         ensures fresh { chosen result.steps.items ≡ [] }
-        ensures sound { Sound result }
     {
         Line {
             batch: Batch { rows, set },
@@ -75,8 +75,6 @@ impl Trial for Line {
     ghost problem = { λ l. l.batch };
 
     ghost taken = { λ l. chosen l.steps.items };
-
-    ghost sound = { Sound };
 
     ghost levels = { λ b. length (jobs_of (bits b.set)) };
 

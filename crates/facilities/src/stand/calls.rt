@@ -27,7 +27,7 @@ impl Stand {
         Stand { supply, rows }
     }
 
-    // Enters the row of a job, in place of the old one.
+    // Enters the row of a job, in place of the old one. Its numbers come one by one, as they are typed.
     pub fn row(
         &mut self,
         job: u32,

@@ -98,6 +98,7 @@ impl JobSet {
     pub fn lowest(self) -> Option<u32>
         ensures { MatchOption result ((j : ℕ) → Has (bits self) j → ⊥) (Lowest (bits self)) }
     {
+        // `find` over these numbers gets no proof.
         for job in 0..JOBS as u32 {
             if self.contains(job) {
                 return Some(job);

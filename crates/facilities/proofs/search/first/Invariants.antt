@@ -7,7 +7,7 @@ abbrev pub invariant-loop-trial : goal.invariant-loop-trial
 invariant-loop-trial g l =
     let t = g.T.Trial in
     let p = t.problem l.initial.trial in
-    (t.problem l.trial ≡ p) × t.sound l.trial
+    (t.problem l.trial ≡ p)
     × Searched (t.allowed p) l.levels l.choices l.found.items l.next (t.taken l.trial)
 
 abbrev pub decreases-loop-trial : goal.decreases-loop-trial

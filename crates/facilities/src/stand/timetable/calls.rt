@@ -3,8 +3,7 @@ ghost use Rattle.std.specs.Prelude.{◌≡◌, [], length, slice_get, option_and
 ghost use Rattle.jobs.specs.Sets.{bits, jobs_of};
 ghost use Rattle.facilities.specs.Draws.{Overdrawn};
 ghost use Rattle.facilities.specs.Rows.{row, row_list, hours};
-ghost use Rattle.facilities.specs.Timetables.{demand_of, Allowed, Sound};
-ghost use Rattle.facilities.specs.Usages.{table};
+ghost use Rattle.facilities.specs.Timetables.{demand_of, Allowed};
 ghost use Rattle.facilities.specs.TimetablesLemmas.{allowed_front};
 ghost use Rattle.std.proofs.Common.{rules};
 
@@ -14,7 +13,7 @@ use crate::stand::timetable::{Demand, Timetable};
 use crate::stand::usage::Usage;
 use crate::trial::Trial;
 use arrayvec::ArrayVec;
-use jobs::set::JobSet;
+use jobs::set::{JOBS, JobSet};
 
 impl Timetable {
     // No job has an hour yet.
@@ -22,7 +21,6 @@ impl Timetable {
         requires { Overdrawn supply (row_list rows) → ⊥ }
         ensures demand { result.demand ≡ demand_of supply rows set }
         ensures fresh { result.starts.items ≡ [] }
-        ensures sound { Sound (row_list result.demand.rows) result.demand.supply (jobs_of (bits result.demand.set)) result.jobs.items result.starts.items (table result.usage) }
     {
         Timetable {
             demand: Demand { supply, rows, set },
@@ -31,13 +29,15 @@ impl Timetable {
             usage: Usage::new(),
         }
     }
+}
 
+impl Demand {
     // The row of the job at a level, if there is such a job and it has one.
-    fn row_at(&self, level: usize) -> Option<StandRow>
-        ensures { result ≡ option_and_then (row (row_list self.now.demand.rows)) (slice_get self.now.jobs.items level) }
+    fn row_at(&self, jobs: &ArrayVec<u32, JOBS>, level: usize) -> Option<StandRow>
+        ensures { result ≡ option_and_then (row (row_list self.now.rows)) (slice_get jobs.now.items level) }
     {
-        let job = self.jobs.get(level)?;
-        self.demand.rows.get(*job)
+        let job = jobs.get(level)?;
+        self.rows.get(*job)
     }
 }
 
@@ -47,8 +47,6 @@ impl Trial for Timetable {
     ghost problem = { λ t. t.demand };
 
     ghost taken = { λ t. t.starts.items };
-
-    ghost sound = { λ t. Sound (row_list t.demand.rows) t.demand.supply (jobs_of (bits t.demand.set)) t.jobs.items t.starts.items (table t.usage) };
 
     ghost levels = { λ d. length (jobs_of (bits d.set)) };
 
@@ -69,7 +67,7 @@ impl Trial for Timetable {
     }
 
     fn take(&mut self, choice: u16) -> bool {
-        let Some(row) = self.row_at(self.starts.len()) else {
+        let Some(row) = self.demand.row_at(&self.jobs, self.starts.len()) else {
             return false;
         };
         if !row.fits(choice) {
@@ -87,7 +85,7 @@ impl Trial for Timetable {
         let Some(start) = self.starts.pop() else {
             return;
         };
-        let Some(row) = self.row_at(self.starts.len()) else {
+        let Some(row) = self.demand.row_at(&self.jobs, self.starts.len()) else {
             return;
         };
         self.usage.free(&row, start);

@@ -8,6 +8,8 @@ ghost use Rattle.facilities.specs.Usages.{table, at};
 use crate::stand::row::StandRow;
 use crate::stand::usage::{ENTRIES, Usage};
 
+// A run ends within the day: each call requires it, since a type of a row with its start would be made for every hour
+// that is tried.
 impl Usage {
     // Nothing is drawn in any hour.
     pub(crate) fn new() -> Usage
@@ -24,6 +26,7 @@ impl Usage {
         ensures { Exactly result ((h : ℕ) → start ≤ h → h < start + row.now.window.takes → at (table self.now) h + draw_at row.now (h - start) ≤ supply) }
     {
         let hours = &self.drawn[row.hours(start)];
+        // A chain that ends in `all` gets no proof here.
         for (hour, drawn) in hours.iter().enumerate() {
             if u32::from(*drawn) + u32::from(row.draw_at(hour)) > supply {
                 return false;

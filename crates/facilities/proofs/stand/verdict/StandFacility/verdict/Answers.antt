@@ -17,9 +17,6 @@ decides : (d : Demand) → bits d.set < 2 ^ width → (r : Option (ArrayVec ℕ)
 decides d l (Some c) held a = scheduled (row_list d.rows) d.supply (bits d.set) l c.items a.0.solves
 decides d l None held a = λ s. a.0 (map s.0 (jobs_of (bits d.set))) (solved (row_list d.rows) d.supply (bits d.set) s)
 
-pub first-requires : goal.first-requires
-first-requires c = record { sound = c.new-timetable.ensures.sound; fresh = c.new-timetable.ensures.fresh }
-
 pub returns : goal.returns
 returns c =
     let s = c.args.self.now in

@@ -6,25 +6,25 @@ use Rattle.facilities.proofs.stand.timetable.calls.TimetableTrial.take.Goals as 
 
 pub returns-in_default : goal.returns-in_default
 returns-in_default c =
-    let s = c.requires.sound in
+    let s = c.args.self.now.sound in
     let turn = turn_of _ _ _ _ _ _ s.all c.requires.room c.len.ensures.value c.in_default.ensures in
-    record { same = refl; sound = s; took = (no_row _ _ _ _ c.args.choice turn, refl) }
+    record { same = refl; took = (no_row _ _ _ _ c.args.choice turn, refl) }
 
 pub returns-then-not-fits : goal.returns-then-not-fits
 returns-then-not-fits c =
-    let s = c.requires.sound in
+    let s = c.args.self.now.sound in
     let turn = turn_of _ _ _ _ _ _ s.all c.requires.room c.len.ensures.value c.in-Some.ensures in
-    record { same = refl; sound = s; took = (λ a. c.if-not-fits.ensures (last_fits _ _ _ _ c.args.choice _ turn a), refl) }
+    record { same = refl; took = (λ a. c.if-not-fits.ensures (last_fits _ _ _ _ c.args.choice _ turn a), refl) }
 
 pub returns-then-not-allows : goal.returns-then-not-allows
 returns-then-not-allows c =
-    let s = c.requires.sound in
+    let s = c.args.self.now.sound in
     let turn = turn_of _ _ _ _ _ _ s.all c.requires.room c.len.ensures.value c.in-Some.ensures in
-    record { same = refl; sound = s; took = (feeds_not _ _ _ _ c.args.choice _ turn _ _ s c.if-not-fits.ensures c.if-not-allows.ensures, refl) }
+    record { same = refl; took = (feeds_not _ _ _ _ c.args.choice _ turn _ _ s c.if-not-fits.ensures c.if-not-allows.ensures, refl) }
 
 pub fill-requires : goal.fill-requires
 fill-requires c =
-    let s = c.requires.sound in
+    let s = c.args.self.now.sound in
     let turn = turn_of _ _ _ _ _ _ s.all c.requires.room c.len.ensures.value c.in-Some.ensures in
     record {
       within = ends_in_day c.in-Some.row c.args.choice c.if-not-fits.ensures;
@@ -34,12 +34,17 @@ fill-requires c =
 pub push-requires : goal.push-requires
 push-requires c = omega (arith, c.requires.room, few_jobs (bits c.args.self.now.demand.set))
 
+pub invariant_of-self-2 : goal.invariant_of-self-2
+invariant_of-self-2 c =
+    let s = c.args.self.now.sound in
+    let turn = turn_of _ _ _ _ _ _ s.all c.requires.room c.len.ensures.value c.in-Some.ensures in
+    record { sound = pushed _ _ _ _ c.args.choice _ turn _ _ s c.if-not-fits.ensures c.if-not-allows.ensures _ _ c.push.ensures.items c.fill.ensures }
+
 pub returns : goal.returns
 returns c =
-    let s = c.requires.sound in
+    let s = c.args.self.now.sound in
     let turn = turn_of _ _ _ _ _ _ s.all c.requires.room c.len.ensures.value c.in-Some.ensures in
     record {
       same = refl;
-      sound = pushed _ _ _ _ c.args.choice _ turn _ _ s c.if-not-fits.ensures c.if-not-allows.ensures _ _ c.push.ensures.items c.fill.ensures;
       took = (stands_on _ _ _ _ c.args.choice _ turn _ _ s c.if-not-fits.ensures c.if-not-allows.ensures, c.push.ensures.items);
     }
