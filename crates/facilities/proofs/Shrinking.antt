@@ -1,10 +1,10 @@
 -- Laws of shrinking, over any family.
 use Rattle.std.proofs.Common.{◌≡◌, ℕ, ◌^◌, ◌<◌, List, [], ◌∷◌, ◌++◌, sym, refl, ◌∙◌, subst}
 use Rattle.std.specs.List.{All}
-use Rattle.std.proofs.lemmas.List.Elements.{All-nil, All-cons}
+use Rattle.std.proofs.lemmas.List.Elements.{All-nil, All-cons, All-contains}
 use Rattle.jobs.specs.Sets.{width, Has, Part, without, jobs_of}
 use Rattle.jobs.proofs.Members.{part_refl, part_trans, part_without, without_part, without_members}
-use Rattle.facilities.specs.Listed.{jobs_all}
+use Rattle.facilities.specs.Listed.{jobs_all, listed_under}
 use Rattle.facilities.specs.Shrinking.{Tried, Shrinks, Shrunk, Minimal, AtMostOne}
 use Rattle.facilities.specs.Shrinking.Tried.{stays, goes}
 
@@ -60,6 +60,13 @@ shrinks_tight family parts (k ∷ ks) set t (s, tried, rest) =
     here : Tried family set k s → Has t k → family (without t k)
     here (stays f e) held = parts (without t k) (without set k) (part_without t set k (subst (Part t) e below)) f
     here (goes n e) held = absurd (((without_members set k k).0 (subst (λ i. Has i k) e (below k held))).1 refl)
+
+-- No job that there is can be left out, whatever the set's number.
+pub shrunk_nearly : (family : ℕ → Type 0) → ((part whole : ℕ) → Part part whole → family whole → family part)
+    → (set t : ℕ) → Shrunk family set t → (j : ℕ) → j < width → Has t j → family (without t j)
+shrunk_nearly family parts set t shrunk j l h =
+    All-contains (λ k. Has t k → family (without t k)) (jobs_of set) j (shrinks_tight family parts (jobs_of set) set t shrunk.shrinks)
+    (listed_under set j l (shrinks_part family (jobs_of set) set t shrunk.shrinks j h)) h
 
 pub shrunk_minimal : (family : ℕ → Type 0) → ((part whole : ℕ) → Part part whole → family whole → family part)
     → (set t : ℕ) → set < 2 ^ width → Shrunk family set t → Minimal family set t

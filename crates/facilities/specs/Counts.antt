@@ -1,12 +1,12 @@
 -- How many jobs a set has, less one and less all.
-use Rattle.std.specs.Prelude.{◌≡◌, ℕ, zero, suc, ◌-◌, ◌/◌, ◌%◌, ◌^◌, ◌<◌, ◌≤◌, length, count_ones}
+use Rattle.std.specs.Prelude.{◌≡◌, ℕ, zero, suc, ◌-◌, ◌/◌, ◌%◌, ◌^◌, ◌<◌, length, count_ones}
 use Rattle.std.proofs.Common.{sym, ap, ◌∙◌, arith}
 use Rattle.std.proofs.Math.Nat.{pow-succ'}
 use Rattle.std.specs.Int.Count.{ones_step}
 use Rattle.jobs.specs.Sets.{width, bit, Has, without, jobs_of}
 use Rattle.jobs.proofs.Bits.{bit_suc, bit_le}
-use Rattle.jobs.proofs.Lists.{length_jobs, few_members}
-use Rattle.jobs.proofs.Members.{without_held, none_in_zero, by_members}
+use Rattle.jobs.proofs.Lists.{length_jobs, no_jobs}
+use Rattle.jobs.proofs.Members.{without_held}
 
 ones_less : (s i : ℕ) → bit s i ≡ 1 → count_ones s ≡ suc (count_ones (s - 2 ^ i))
 ones_less s zero h =
@@ -30,12 +30,5 @@ count_without s i l h =
 pub count_none : (s i : ℕ) → s < 2 ^ width → length (jobs_of s) ≡ 0 → Has s i → ⊥
 count_none s i l e h = omega (arith, count_without s i l h)
 
-pub none_count : (s : ℕ) → ((i : ℕ) → Has s i → ⊥) → length (jobs_of s) ≡ 0
-unfolding jobs_of
-none_count s none =
-    let e : s ≡ 0 = by_members s 0 (λ i h. absurd (none i h)) (λ i h. absurd (none_in_zero i h)) in
-    ap (λ n. length (jobs_of n)) e
-
-pub few_jobs : (s : ℕ) → length (jobs_of s) ≤ width
-unfolding jobs_of
-few_jobs s = few_members s width
+pub none_count : (s : ℕ) → ((i : ℕ) → i < width → Has s i → ⊥) → length (jobs_of s) ≡ 0
+none_count s none = ap length (no_jobs s none)

@@ -10,7 +10,7 @@ use Rattle.jobs.proofs.Bits.{bit_fits}
 use Rattle.facilities.specs.LevelsLemmas.{Apart}
 
 -- each job of the set is listed
-listed_below : (set n j : ℕ) → j < n → Has set j → Contains (members set n) j
+pub listed_below : (set n j : ℕ) → j < n → Has set j → Contains (members set n) j
 listed_below set zero j l h = absurd (omega arith)
 listed_below set (suc n) j l h = ⊎_elim
     (λ (e : j ≡ n). subst (Contains (members set (suc n))) (sym e)
@@ -28,10 +28,14 @@ module _ (P : ℕ → Type 0) where
   all_add true js n a p = All-push P js n a (p refl)
   all_add false js n a p = a
 
-  all_members : (set n : ℕ) → ((j : ℕ) → j < n → Has set j → P j) → All P (members set n)
+  pub all_members : (set n : ℕ) → ((j : ℕ) → j < n → Has set j → P j) → All P (members set n)
   all_members set zero f = All-nil P
   all_members set (suc n) f =
       all_add (has set n) (members set n) n (all_members set n (λ j l h. f j (omega arith) h)) (λ e. f n (omega arith) (eqb-true (bit set n) 1 e))
+
+  -- and the other way
+  pub members_all : (set n : ℕ) → All P (members set n) → (j : ℕ) → j < n → Has set j → P j
+  members_all set n a j l h = All-contains P (members set n) j a (listed_below set n j l h)
 
 apart_push : (js : List ℕ) (n : ℕ) → All (λ j. j < n) js → Apart js → Apart (js ++ n ∷ [])
 apart_push [] n l a = (All-nil (λ i. i ≢ n), tt)
@@ -43,7 +47,7 @@ apart_add : (b : Bool) (js : List ℕ) (n : ℕ) → All (λ j. j < n) js → Ap
 apart_add true js n l a = apart_push js n l a
 apart_add false js n l a = a
 
-members_apart : (set n : ℕ) → Apart (members set n)
+pub members_apart : (set n : ℕ) → Apart (members set n)
 members_apart set zero = tt
 members_apart set (suc n) = apart_add (has set n) (members set n) n (all_members (λ j. j < n) set n (λ j l h. l)) (members_apart set n)
 
@@ -77,12 +81,21 @@ pub jobs_listed : (set j : ℕ) → set < 2 ^ width → Has set j → Contains (
 unfolding jobs_of
 jobs_listed set j small h = listed_below set width j (bit_fits width set j small h) h
 
+-- the same of a set of any number, for the jobs that there are
+pub listed_under : (set j : ℕ) → j < width → Has set j → Contains (jobs_of set) j
+unfolding jobs_of
+listed_under set j l h = listed_below set width j l h
+
 pub jobs_all : (P : ℕ → Type 0) (set : ℕ) → set < 2 ^ width → All P (jobs_of set) → (j : ℕ) → Has set j → P j
 jobs_all P set small a j h = All-contains P (jobs_of set) j a (jobs_listed set j small h)
 
 pub jobs_apart : (set : ℕ) → Apart (jobs_of set)
 unfolding jobs_of
 jobs_apart set = members_apart set width
+
+pub jobs_below : (set : ℕ) → All (λ j. j < width) (jobs_of set)
+unfolding jobs_of
+jobs_below set = all_members (λ j. j < width) set width (λ j l h. l)
 
 pub sum_jobs_part : (amount : ℕ → ℕ) (part whole : ℕ) → Part part whole → sum_by amount (jobs_of part) ≤ sum_by amount (jobs_of whole)
 unfolding jobs_of

@@ -126,7 +126,7 @@ pub lined_up : (n : ℕ) (rows : List (Option Window)) (set t : ℕ) (start : �
 lined_up zero rows set t start b e h low = ([], refl, tt, tt)
 lined_up (suc n) rows set t start b e h low =
     ⊎_elim
-    (λ none. let z : ⊥ = omega (arith, none_count set (λ i h. none i (bit_fits width set i b h) h)) in absurd z)
+    (λ none. let z : ⊥ = omega (arith, none_count set none) in absurd z)
     (λ best.
     let m = best.0 in
     let o = row rows m in

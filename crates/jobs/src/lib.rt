@@ -1,5 +1,6 @@
 // Jobs, sets of jobs, and the refusals of every call.
 #![tactic(auto)]
 
+pub mod list;
 pub mod refusal;
 pub mod set;

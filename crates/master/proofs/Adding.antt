@@ -1,5 +1,5 @@
 -- What is left of the cuts when one is added.
-use Rattle.std.proofs.Common.{◌≡◌, ℕ, zero, suc, ◌<◌, ◌≤◌, Bool, ◌⊎◌, List, [], ◌∷◌, ◌++◌, length, Ok, cond, MatchBool, true, false, sym, refl, ap, ◌∙◌, subst, inl, inr, ⊎_elim, arith, lt-ltb}
+use Rattle.std.proofs.Common.{◌≡◌, ℕ, zero, suc, ◌<◌, ◌≤◌, Bool, ◌⊎◌, List, [], ◌∷◌, ◌++◌, length, get_or, Ok, cond, MatchBool, true, false, sym, refl, ap, ◌∙◌, subst, inl, inr, ⊎_elim, arith, lt-ltb}
 use Rattle.std.proofs.Math.Bridge.{le_prop}
 use mathlib.Core.HLevel.{is_prop→PathP, ⊥_prop}
 use Rattle.std.proofs.lemmas.List.Elements.{All-from_all_within, recursion_from_All}
@@ -8,7 +8,7 @@ use Rattle.std.specs.List.{AllByRecursion, HoldsAt, AllWithin}
 use Rattle.jobs.specs.Words.{Exactly}
 use Rattle.master.specs.Tables.{held}
 use Rattle.master.specs.declared.table.CutTable.{CutTable}
-use Rattle.master.specs.Cuts.{room, Breaks, Obeys, Within, Leaves, Covers, Adds, RulesOut, Touches, Clash, Misplaced}
+use Rattle.master.specs.Cuts.{room, cut_of, Breaks, Obeys, Within, Leaves, Covers, Adds, RulesOut, Touches, Clash, Misplaced}
 use Rattle.master.specs.Rows.{Gives}
 use Rattle.master.specs.declared.cut.Addition.{Addition}
 use Rattle.std.proofs.ByRecursion.{All-push}
@@ -22,6 +22,9 @@ use Rattle.master.specs.declared.cut.Cut.{Cut}
 use Rattle.master.specs.Refused.{most_places, refused_unless, cut_refusal}
 use Rattle.jobs.specs.Refusals.{Answered}
 use Rattle.jobs.specs.declared.refusal.Refusal.TheVariants.{NoSuchPlace}
+
+abbrev pub no_cut : Cut
+no_cut = cut_of 0 (record { bits = 0 })
 
 pub not_covered : (c : Cut) (cs : List Cut) → AllByRecursion (λ d. Within d c → ⊥) cs → Covers c cs → ⊥
 not_covered c cs h (here d ds k) = h.0 k
@@ -40,6 +43,22 @@ leaves_retained R c f says (x ∷ xs) ys h =
     go : (b : Bool) (y : Cut) → MatchBool b (Within c x → ⊥) (Within c x) → y ≡ x → (zs : List Cut) → Leaves c xs zs → ys ≡ cond b (y ∷ zs) zs → Leaves c (x ∷ xs) ys
     go true y out same zs l e = subst (λ (es : List Cut). Leaves c (x ∷ xs) es) (sym (e ∙ ap (λ (z : Cut). z ∷ zs) same)) (stays x xs zs out l)
     go false y in' same zs l e = subst (λ (es : List Cut). Leaves c (x ∷ xs) es) (sym e) (goes x xs zs in' l)
+
+pub all_stay : (c : Cut) (cs left : List Cut) → AllByRecursion (λ d. Within c d → ⊥) cs → Leaves c cs left → left ≡ cs
+all_stay c cs left h none = refl
+all_stay c cs left h (goes d ds es k l) = absurd (h.0 k)
+all_stay c cs left h (stays d ds es k l) = ap (λ (xs : List Cut). d ∷ xs) (all_stay c ds es h.1 l)
+
+-- one cut more of the table looked at
+pub leaves_goes : (c : Cut) (ds es : List Cut) (d : Cut) → Within c d → Leaves c ds es → Leaves c (ds ++ d ∷ []) es
+leaves_goes c ds es d w none = goes d [] [] w none
+leaves_goes c ds es d w (goes x xs ys k l) = goes x (xs ++ d ∷ []) es k (leaves_goes c xs es d w l)
+leaves_goes c ds es d w (stays x xs ys k l) = stays x (xs ++ d ∷ []) ys k (leaves_goes c xs ys d w l)
+
+pub leaves_stays : (c : Cut) (ds es : List Cut) (d : Cut) → (Within c d → ⊥) → Leaves c ds es → Leaves c (ds ++ d ∷ []) (es ++ d ∷ [])
+leaves_stays c ds es d w none = stays d [] [] w none
+leaves_stays c ds es d w (goes x xs ys k l) = goes x (xs ++ d ∷ []) (es ++ d ∷ []) k (leaves_stays c xs es d w l)
+leaves_stays c ds es d w (stays x xs ys k l) = stays x (xs ++ d ∷ []) (ys ++ d ∷ []) k (leaves_stays c xs ys d w l)
 
 pub leaves_short : (c : Cut) (ds es : List Cut) → Leaves c ds es → length es ≤ length ds
 leaves_short c ds es none = omega arith
@@ -97,10 +116,15 @@ clash_push (x ∷ xs) c (later y zs t) = ⊎_elim (λ (k : Clash xs). inl (later
 pub apart_put : (c : Cut) (ds es : List Cut) → (Clash es → ⊥) → (Covers c ds → ⊥) → Leaves c ds es → Clash (es ++ c ∷ []) → ⊥
 apart_put c ds es apart new l t = ⊎_elim apart (λ (k : Touches c es). leaves_free c ds es l new k) (clash_push es c t)
 
-covered_at : (c : Cut) (cs : List Cut) (i : ℕ) → i < length cs → HoldsAt (λ d. Within d c) cs i → Covers c cs
+pub covered_at : (c : Cut) (cs : List Cut) (i : ℕ) → i < length cs → Within (get_or cs i no_cut) c → Covers c cs
 covered_at c [] i l w = absurd (omega arith)
-covered_at c (d ∷ ds) zero l w = here d ds (w d)
+covered_at c (d ∷ ds) zero l w = here d ds w
 covered_at c (d ∷ ds) (suc i) l w = there d ds (covered_at c ds i (omega arith) w)
+
+holds_covered : (c : Cut) (cs : List Cut) (i : ℕ) → i < length cs → HoldsAt (λ d. Within d c) cs i → Covers c cs
+holds_covered c [] i l w = absurd (omega arith)
+holds_covered c (d ∷ ds) zero l w = here d ds (w d)
+holds_covered c (d ∷ ds) (suc i) l w = there d ds (holds_covered c ds i (omega arith) w)
 
 -- every cut left has its place, and so has the new one
 pub leaves_placed : (c : Cut) (ds es : List Cut) → Leaves c ds es → Misplaced es → Misplaced ds
@@ -126,7 +150,7 @@ same_table t u e = λ i. record {
 
 -- a cut of the list lies within c, or none does
 pub covered_found : (c : Cut) (cs : List Cut) (r : Bool) → MatchBool r ((k : ℕ) × (k < length cs) × HoldsAt (λ d. Within d c) cs k) (AllWithin (λ d. Within d c → ⊥) cs 0 (length cs)) → Exactly r (Covers c cs)
-covered_found c cs true h = covered_at c cs h.0 h.1 h.2
+covered_found c cs true h = holds_covered c cs h.0 h.1 h.2
 covered_found c cs false h = not_covered c cs (recursion_from_All (λ d. Within d c → ⊥) cs (All-from_all_within (λ d. Within d c → ⊥) cs h))
 
 -- of a place that there can be

@@ -2,6 +2,7 @@ pub mod Adding
 pub mod Breaking
 pub mod Climbing
 pub mod Giving
+pub mod Offering
 pub mod Passing
 pub mod SameRows
 pub mod Searching

@@ -5,11 +5,10 @@
 mod cases;
 mod show;
 
-use anyhow::{Context, Result};
 use cases::{random_cuts, random_tariff};
 use master::cheapest::cheapest;
 use master::measure::Sum;
-use show::Shown;
+use show::{Failure, Shown};
 use std::env;
 use xorshift::Random;
 
@@ -22,22 +21,19 @@ struct Wanted {
     cases: usize,
 }
 
-// One argument as a number.
-fn parsed(word: Option<String>) -> Result<usize> {
-    let word = word.context("the arguments are how many cuts and how many cases")?;
-    Ok(word.parse::<usize>()?)
-}
-
-fn read_wanted(rt: &HostRuntime) -> Result<Wanted> {
+// Both words are there before either is read as a number.
+fn read_wanted(rt: &HostRuntime) -> Result<Wanted, Failure> {
     let mut words = env::args(rt)?;
     let _ = words.next();
+    let cuts = words.next().ok_or(Failure::Usage)?;
+    let cases = words.next().ok_or(Failure::Usage)?;
     Ok(Wanted {
-        cuts: parsed(words.next())?,
-        cases: parsed(words.next())?,
+        cuts: cuts.parse::<usize>()?,
+        cases: cases.parse::<usize>()?,
     })
 }
 
-fn main(rt: HostRuntime) -> Result<()> {
+fn main(rt: HostRuntime) -> Result<(), Failure> {
     let wanted = read_wanted(&rt)?;
     let mut random = Random::new(SEED);
     for number in 0..wanted.cases {

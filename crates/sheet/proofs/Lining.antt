@@ -1,9 +1,9 @@
 -- The lines of a sheet, one after the other, and how long a sheet can be.
-use Rattle.std.proofs.Common.{◌≡◌, ℕ, suc, ◌+◌, ◌-◌, ◌*◌, ◌^◌, ◌<◌, ◌≤◌, List, [], ◌∷◌, ◌++◌, length, get_or, take, drop, codes, sym, refl, ap, ◌∙◌, ⊎_elim, add-zero, add_assoc, arith}
+use Rattle.std.proofs.Common.{◌≡◌, ℕ, suc, ◌+◌, ◌-◌, ◌*◌, ◌^◌, ◌<◌, ◌≤◌, List, [], ◌∷◌, ◌++◌, length, get_or, take, drop, codes, true, ltb, None, lt-ltb, sym, refl, ap, ◌∙◌, ⊎_elim, add-zero, add_assoc, arith}
 use Rattle.std.proofs.lemmas.List.{append_assoc, append-nil, length-append, length-take-le, take_more, take-append-drop}
 use Rattle.std.proofs.lemmas.Bool.{cases_lt}
 use Rattle.jobs.specs.Sets.{width}
-use Rattle.sheet.specs.Sheets.{numeral, pair, line, lines, no_tail, title, placing, feed}
+use Rattle.sheet.specs.Sheets.{numeral, pair, line, lines, no_tail, title, placing, feed, room_refusal, sheet_room}
 use Rattle.sheet.proofs.Numbers.{length_numeral}
 
 -- a line of two words
@@ -19,6 +19,11 @@ words_joined old word n other m = simp append_assoc
 pub length_head : (round cost : ℕ) → round < 2 ^ 32 → cost < 2 ^ 32 → length (title round cost ++ feed) ≤ 38
 length_head round cost r c =
     omega (arith, length_words (codes "plan round ") round (codes " cost ") cost, length_numeral 10 round, length_numeral 10 cost)
+
+-- as short as that for the rounds that there are
+pub length_head_round : (round cost : ℕ) → round < 65536 → cost < 4294967296 → length (title round cost ++ feed) ≤ 33
+length_head_round round cost r c =
+    omega (arith, length_words (codes "plan round ") round (codes " cost ") cost, length_numeral 5 round, length_numeral 10 cost)
 
 length_line_is : (job place : ℕ) → length (line job place []) ≡ 12 + (length (numeral job) + length (numeral place))
 unfolding line
@@ -62,3 +67,10 @@ line_fits old places job place h e =
     let rest : List ℕ = lines no_tail (0 + length front) (drop (job + 1) places) in
     let whole : lines no_tail 0 places ≡ lines no_tail 0 front ++ rest = rw (← lines_append no_tail 0 front (drop (job + 1) places), take-append-drop (job + 1) places) refl in
     omega (arith, ap length whole, ap length (lines_more old places job place h e), length-append {A = ℕ})
+
+-- a buffer that is not refused has room
+pub has_room : (room : ℕ) → None ≡ room_refusal room → sheet_room ≤ room
+has_room room e = ⊎_elim
+    (λ (small : room < sheet_room). let test : ltb room sheet_room ≡ true = lt-ltb room sheet_room small in let z : ◌≡◌ {A = ℕ} 0 1 = cc in absurd (omega arith))
+    (λ (large : sheet_room ≤ room). large)
+    (cases_lt room sheet_room)

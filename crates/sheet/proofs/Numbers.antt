@@ -1,8 +1,8 @@
 -- Numbers in decimal.
-use Rattle.std.proofs.Common.{◌≡◌, ℕ, zero, suc, ◌+◌, ◌/◌, ◌%◌, ◌^◌, ◌<◌, ◌≤◌, List, [], ◌∷◌, map, length, get_or, sym, refl, ap, ◌∙◌, arith, lt-ltb}
+use Rattle.std.proofs.Common.{◌≡◌, ℕ, zero, suc, ◌+◌, ◌/◌, ◌%◌, ◌^◌, ◌<◌, ◌≤◌, List, [], ◌∷◌, map, length, get_or, sym, refl, ap, ◌∙◌, arith, lt-ltb, length-append}
 use Rattle.std.proofs.lemmas.Fmt.{decimal_digit, decimal-digits_of, length-decimal-le}
-use Rattle.std.proofs.lemmas.Int.Digits.{digits_of_step, all_below_base_digits_of, first_digits_of, number_digits_of, digits_value_is}
-use Rattle.std.proofs.lemmas.List.{map_push}
+use Rattle.std.proofs.lemmas.Int.Digits.{length-digits_of-le, digits_of_step, all_below_base_digits_of, first_digits_of, number_digits_of, digits_value_is}
+use Rattle.std.proofs.lemmas.List.{length-map, map_push}
 use Rattle.std.specs.Fmt.{decimal}
 use Rattle.std.specs.Str.Parse.{digits_value}
 use Rattle.std.specs.Char.{digit_value}
@@ -26,6 +26,12 @@ numeral_some n h = sym (ap glyphs (digits_of_step 10 n (omega arith) h) ∙ map_
 pub numeral_decimal : (n : ℕ) → n < 2 ^ 64 → decimal n ≡ numeral n
 numeral_decimal zero h = decimal_digit 0 (omega arith) ∙ sym numeral_zero
 numeral_decimal (suc n) h = decimal-digits_of (suc n) (omega arith) h ∙ sym (numeral_some (suc n) (omega arith))
+
+-- of a number of any size
+pub length_numeral_any : (k n : ℕ) → n / 10 < 10 ^ k → length (numeral n) ≤ k + 1
+unfolding numeral
+length_numeral_any k n h =
+    omega (arith, length-append (glyphs (digits_of 10 (n / 10))) ((48 + n % 10) ∷ []), length-map (digits_of 10 (n / 10)) (λ d. 48 + d), length-digits_of-le 10 k (n / 10) (omega arith) h)
 
 pub length_numeral : (k n : ℕ) → 0 < k → n < 10 ^ k → n < 2 ^ 64 → length (numeral n) ≤ k
 length_numeral k n h l w = rw (← numeral_decimal n w) (length-decimal-le k n h l w)

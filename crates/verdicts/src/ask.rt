@@ -1,7 +1,6 @@
 // A list of questions put to a workshop with a number of answers granted.
 use crate::sets::sets;
-use crate::show::Named;
-use anyhow::Result;
+use crate::show::{Failure, Named};
 use jobs::refusal::Refusal;
 use jobs::set::JobSet;
 use workshops::workshop::Workshop;
@@ -33,7 +32,7 @@ pub(crate) fn questions<W: Workshop + Drop>(
     rt: &HostRuntime,
     amount: u16,
     workshop: W,
-) -> Result<()> {
+) -> Result<(), Failure> {
     let mut workshop = workshop;
     workshop.grant(amount);
     for question in asked()? {

@@ -5,13 +5,12 @@ mod ask;
 mod sets;
 mod show;
 
-use anyhow::Result;
 use ask::questions;
-use show::{refused_row, verdicts};
+use show::{Failure, refused_row, verdicts};
 use worked_run::{bench, stand};
 use workshops::pile::pile_up;
 
-fn main(rt: HostRuntime) -> Result<()> {
+fn main(rt: HostRuntime) -> Result<(), Failure> {
     verdicts(&rt, "bench", 0, &bench()?)?;
     verdicts(&rt, "stand", 1, &stand()?)?;
     refused_row(&rt)?;

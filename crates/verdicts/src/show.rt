@@ -1,11 +1,20 @@
-// Sets, verdicts and refusals in words.
+// Sets, verdicts and refusals in words, and why the program ended early.
 use crate::sets::sets;
-use anyhow::Result;
 use facilities::facility::Facility;
 use facilities::shrink::smallest_failing;
+use jobs::refusal::Refusal;
 use jobs::set::JobSet;
-use std::fmt;
+use std::{fmt, io};
+use thiserror::Error;
 use worked_run::bench;
+
+#[derive(Debug, Drop, Error)]
+pub enum Failure {
+    #[error("{0}")]
+    Refused(#[from] Refusal),
+    #[error("{0}")]
+    Output(#[from] io::Error),
+}
 
 // A set of jobs, to print.
 #[derive(Drop)]
@@ -15,10 +24,10 @@ impl fmt::Display for Named {
     fn fmt<W: fmt::Write>(&self, f: &mut fmt::Formatter<W>) -> fmt::Result {
         let jobs = self.0.jobs();
         f.write_str("jobs")?;
-        if jobs.is_empty() {
+        if jobs.len() == 0 {
             f.write_str(" none")?;
         }
-        for job in &jobs {
+        for job in jobs.as_slice() {
             write!(f, " {job}")?;
         }
         Ok(())
@@ -31,7 +40,7 @@ pub(crate) fn verdicts<F: Facility>(
     name: &str,
     place: u8,
     facility: &F,
-) -> Result<()> {
+) -> Result<(), Failure> {
     for set in sets()? {
         let jobs = Named(set);
         match smallest_failing(facility, set) {
@@ -46,7 +55,7 @@ pub(crate) fn verdicts<F: Facility>(
 }
 
 // A row that no bench takes.
-pub(crate) fn refused_row(rt: &HostRuntime) -> Result<()> {
+pub(crate) fn refused_row(rt: &HostRuntime) -> Result<(), Failure> {
     let mut bench = bench()?;
     if let Err(refusal) = bench.row(3, 6, 3, 8) {
         println!(rt;

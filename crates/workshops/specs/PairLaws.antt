@@ -1,7 +1,7 @@
 -- The laws of a pair, from those of its two workshops.
 use Rattle.std.specs.Prelude.{◌≡◌, ℕ, ◌+◌, ◌-◌, ◌<◌, ◌≤◌, min, Bool, true, false, cond, None, Option, nat_lt, refl}
 use Rattle.std.proofs.Common.{sym, ap, subst, ◌∙◌, arith}
-use Rattle.std.proofs.lemmas.Bool.{ltb-true, ltb-false}
+use Rattle.std.proofs.lemmas.Bool.{cond-true, cond-false, lt-ltb, le-ltb, ltb-true, ltb-false}
 use Rattle.jobs.specs.Sets.{Part}
 use Rattle.jobs.specs.Words.{Same}
 use Rattle.workshops.specs.Stances.{Ready, Stopped, deeper}
@@ -11,6 +11,12 @@ use Rattle.workshops.specs.Pairs.{Side, in_first, in_second, side, family_at, st
 use Rattle.workshops.specs.declared.pair.Pair.{Pair}
 use Rattle.workshops.specs.StanceFacts.{deeper_ready, deeper_bytes}
 use Rattle.workshops.specs.KeptFacts.{kept_same, unmoved_same}
+
+pub side_first : (before p : ℕ) → p < before → side before p ≡ in_first p
+side_first before p l = cond-true _ _ _ (lt-ltb _ _ l)
+
+pub side_second : (before p : ℕ) → before ≤ p → side before p ≡ in_second (p - before)
+side_second before p l = cond-false _ _ _ (le-ltb _ _ l)
 
 -- the place lies below the count of its side
 abbrev Inside : ℕ → ℕ → Side → Type 0

@@ -1,4 +1,5 @@
 // Start hours for the jobs of a set, given one after the other from the lowest job.
+ghost use Rattle.jobs.specs.Lists.{listed};
 ghost use Rattle.jobs.specs.Sets.{bits, jobs_of};
 ghost use Rattle.facilities.specs.Rows.{row_list};
 ghost use Rattle.facilities.specs.Timetables.{Sound};
@@ -9,6 +10,7 @@ use crate::rows::Rows;
 use crate::stand::row::StandRow;
 use crate::stand::usage::Usage;
 use arrayvec::ArrayVec;
+use jobs::list::JobList;
 use jobs::set::{JOBS, JobSet};
 
 pub mod calls;
@@ -26,8 +28,8 @@ pub(crate) struct Demand {
 #[derive(Drop)]
 pub(crate) struct Timetable {
     demand: Demand,
-    jobs: ArrayVec<u32, JOBS>,
+    jobs: JobList,
     starts: ArrayVec<u16, JOBS>,
     usage: Usage,
-    ghost sound: { Sound (row_list demand.rows) demand.supply (jobs_of (bits demand.set)) jobs.items starts.items (table usage) } by { sound_prop (row_list demand.rows) demand.supply (jobs_of (bits demand.set)) jobs.items starts.items (table usage) },
+    ghost sound: { Sound (row_list demand.rows) demand.supply (jobs_of (bits demand.set)) (listed jobs) starts.items (table usage) } by { sound_prop (row_list demand.rows) demand.supply (jobs_of (bits demand.set)) (listed jobs) starts.items (table usage) },
 }

@@ -6,7 +6,6 @@ ghost use Rattle.jobs.specs.Words.{Same, Exactly};
 
 use crate::refusal::Refusal;
 use crate::set::{JOBS, JobSet};
-use arrayvec::ArrayVec;
 
 impl JobSet {
     // The set with no job.
@@ -105,18 +104,5 @@ impl JobSet {
             }
         }
         None
-    }
-
-    // The jobs of the set, from the lowest.
-    pub fn jobs(self) -> ArrayVec<u32, JOBS>
-        ensures { result.items ≡ jobs_of (bits self) }
-    {
-        let mut jobs = ArrayVec::new();
-        for job in 0..JOBS as u32 {
-            if self.contains(job) {
-                jobs.push(job);
-            }
-        }
-        jobs
     }
 }

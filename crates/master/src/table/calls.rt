@@ -56,12 +56,17 @@ impl CutTable {
     }
 
     // Whether a held cut lies within the given one.
-    // A call of its own: inlined into the search it can take twice the time, as its code comes to lie.
+    // `lies_within` written out, in a call of its own: so the loop is as short as can be, wherever it comes to lie.
     #[inline(never)]
     fn covers(&self, new: Cut) -> bool
         ensures { Exactly result (Covers new (held self.now)) }
     {
-        self.cuts.iter().any(|cut| lies_within(*cut, new))
+        for cut in self.cuts.as_slice() {
+            if cut.place == new.place && cut.set.is_part_of(new.set) {
+                return true;
+            }
+        }
+        false
     }
 
     // Removes the cuts that the given one lies within.
@@ -97,7 +102,7 @@ impl CutTable {
     pub fn obeys(&self, row: &Row) -> bool
         ensures { Exactly result (Obeys (row_places row.now) (held self.now)) }
     {
-        for cut in &self.cuts {
+        for cut in self.cuts.as_slice() {
             if breaks(row, *cut) {
                 return false;
             }

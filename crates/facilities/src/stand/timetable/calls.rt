@@ -1,5 +1,6 @@
 // A timetable is a trial: a level for each job of the set, and at each a choice of the hour at which the job starts.
 ghost use Rattle.std.specs.Prelude.{◌≡◌, [], length, slice_get, option_and_then};
+ghost use Rattle.jobs.specs.Lists.{listed};
 ghost use Rattle.jobs.specs.Sets.{bits, jobs_of};
 ghost use Rattle.facilities.specs.Draws.{Overdrawn};
 ghost use Rattle.facilities.specs.Rows.{row, row_list, hours};
@@ -13,7 +14,8 @@ use crate::stand::timetable::{Demand, Timetable};
 use crate::stand::usage::Usage;
 use crate::trial::Trial;
 use arrayvec::ArrayVec;
-use jobs::set::{JOBS, JobSet};
+use jobs::list::JobList;
+use jobs::set::JobSet;
 
 impl Timetable {
     // No job has an hour yet.
@@ -33,10 +35,10 @@ impl Timetable {
 
 impl Demand {
     // The row of the job at a level, if there is such a job and it has one.
-    fn row_at(&self, jobs: &ArrayVec<u32, JOBS>, level: usize) -> Option<StandRow>
-        ensures { result ≡ option_and_then (row (row_list self.now.rows)) (slice_get jobs.now.items level) }
+    fn row_at(&self, jobs: &JobList, level: usize) -> Option<StandRow>
+        ensures { result ≡ option_and_then (row (row_list self.now.rows)) (slice_get (listed jobs.now) level) }
     {
-        let job = jobs.get(level)?;
+        let job = jobs.as_slice().get(level)?;
         self.rows.get(*job)
     }
 }

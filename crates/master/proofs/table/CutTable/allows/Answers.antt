@@ -13,6 +13,6 @@ returns-in-Ok-clause-begun c = λ l row e g ok.
     let old = c.args.so_far in
     let new = c.in-Ok.set in
     let members : (j : ℕ) → Same (Has (bits new) j) (Has (bits old) j ⊎ (j ≡ job)) =
-    with_taken job new (λ s. (j : ℕ) → Same (Has (bits s) j) (Has (bits old) j ⊎ (j ≡ job))) c.in-Ok.ensures.members in
+    (with_taken job new (λ s. (j : ℕ) → Same (Has (bits s) j) (Has (bits old) j ⊎ (j ≡ job))) c.in-Ok.ensures.members).1 in
     let covers : Exactly c.covers.result (Covers (cut_of place new) (held c.args.self.now)) = search rules in
     still_obeys row place new (whole_group row place job (bits old) (bits new) e members g) (held c.args.self.now) c.covers.result covers ok

@@ -1,6 +1,6 @@
 use Rattle.std.proofs.Common.{arith}
 use Rattle.jobs.specs.Sets.{bits}
-use Rattle.facilities.specs.Counts.{few_jobs}
+use Rattle.jobs.proofs.Lists.{few_jobs}
 use Rattle.facilities.proofs.bench.line.LineTrial.depth.Goals as goal
 
 pub returns : goal.returns

@@ -1,7 +1,7 @@
 use Rattle.std.proofs.Common.{[], ◌∷◌, sym, refl, ap, ◌∙◌, subst, arith}
 use Rattle.std.proofs.lemmas.List.{map-append, length-map}
 use Rattle.jobs.specs.Sets.{bits}
-use Rattle.facilities.specs.Counts.{few_jobs}
+use Rattle.jobs.proofs.Lists.{few_jobs}
 use Rattle.facilities.specs.Lines.{Later, chosen, Leads, morning}
 use Rattle.facilities.specs.LinesLemmas.{leads_on, lined_on, lined_last}
 use Rattle.facilities.specs.Rows.{row_list}

@@ -1,6 +1,6 @@
 use Rattle.std.proofs.Common.{refl, arith}
 use Rattle.jobs.specs.Sets.{bits}
-use Rattle.facilities.specs.Counts.{few_jobs}
+use Rattle.jobs.proofs.Lists.{few_jobs}
 use Rattle.facilities.specs.TimetablesLemmas.{turn_of, ends_in_day, no_row, last_fits, feeds_not, room_left, stands_on, pushed}
 use Rattle.facilities.proofs.stand.timetable.calls.TimetableTrial.take.Goals as goal
 
